@@ -1,0 +1,30 @@
+-- Bit fields by their lowest bit and their width, and numbers of 8 or 16 bits made words.
+use Prim.Native.Nat.{ℕ, _+_, _*_, _/_, _%_, _^_}
+use Rattle.word.specs.Word.{signed-in, wrapped}
+use Rattle.shift.specs.Shift.{rotated}
+
+unfoldable pub UBFX : ℕ → ℕ → ℕ → ℕ
+UBFX x lsb width = x / 2 ^ lsb % 2 ^ width
+
+unfoldable pub SBFX : ℕ → ℕ → ℕ → ℕ
+SBFX x lsb width = wrapped 32 (signed-in width (UBFX x lsb width))
+
+-- d with the bits from lsb on replaced by the width low bits of x; the bits above and below stay
+unfoldable pub BFI : ℕ → ℕ → ℕ → ℕ → ℕ
+BFI d x lsb width = (d / 2 ^ (lsb + width) * 2 ^ (lsb + width) + x % 2 ^ width * 2 ^ lsb + d % 2 ^ lsb) % 2 ^ 32
+
+abbrev pub BFC : ℕ → ℕ → ℕ → ℕ
+BFC d lsb width = BFI d 0 lsb width
+
+-- the low bits of x, first turned right by the rotation
+abbrev pub SXTB : ℕ → ℕ → ℕ
+SXTB x rotation = SBFX (rotated x (rotation % 32)) 0 8
+
+abbrev pub SXTH : ℕ → ℕ → ℕ
+SXTH x rotation = SBFX (rotated x (rotation % 32)) 0 16
+
+abbrev pub UXTB : ℕ → ℕ → ℕ
+UXTB x rotation = UBFX (rotated x (rotation % 32)) 0 8
+
+abbrev pub UXTH : ℕ → ℕ → ℕ
+UXTH x rotation = UBFX (rotated x (rotation % 32)) 0 16

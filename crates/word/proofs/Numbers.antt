@@ -1,0 +1,26 @@
+-- Numbers shifted by powers of two.
+use Prim.Native.Nat.{ℕ, _+_, _-_, _*_, _/_, _%_, _^_, _≤_, _<_}
+use mathlib.Core.Path.{_≡_, sym, ap, _∙_}
+use native.Mathlib.Omega.{arith}
+use native.Mathlib.Nat.{le-of-lt, mul-mod-left, mul-div-cancel, mul-assoc, div-eq-of-lt, lt-of-lt-of-le, sub-add-cancel}
+use lib.Pow.{pow-add, pow-pos, pow-mono}
+
+-- a shift by n is one by n - k and one by k
+pub shift-apart : (x n k : ℕ) → k ≤ n → x * 2 ^ n ≡ x * 2 ^ (n - k) * 2 ^ k
+shift-apart x n k h =
+    ap (λ (m : ℕ). x * 2 ^ m) (sym (sub-add-cancel h)) ∙ ap (λ (p : ℕ). x * p) (pow-add 2 (n - k) k)
+    ∙ sym (mul-assoc x (2 ^ (n - k)) (2 ^ k))
+
+-- shifted past the top of k bits, nothing of x is left there
+pub none-below : (x n k : ℕ) → k ≤ n → x * 2 ^ n % 2 ^ k ≡ 0
+none-below x n k h = rw (shift-apart x n k h) (mul-mod-left (x * 2 ^ (n - k)) (2 ^ k))
+
+-- and bit k is clear where the shift went further
+pub bit-clear : (x n k : ℕ) → k < n → x * 2 ^ n / 2 ^ k % 2 ≡ 0
+bit-clear x n k h =
+    rw (shift-apart x n k (le-of-lt h), mul-div-cancel (x * 2 ^ (n - k)) (pow-pos k), shift-apart x (n - k) 1 (omega arith))
+    (mul-mod-left (x * 2 ^ (n - k - 1)) 2)
+
+-- a number of k bits shifted down by k or more
+pub none-above : {x : ℕ} (n k : ℕ) → x < 2 ^ k → k ≤ n → x / 2 ^ n ≡ 0
+none-above n k h l = div-eq-of-lt (lt-of-lt-of-le h (pow-mono l))
