@@ -1,5 +1,6 @@
 //! Reading a record. Every rule under "Records" that is broken is number 2.
 
+use crate::machine::PC;
 use crate::number::{Number, MALFORMED};
 use crate::record::*;
 use crate::word;

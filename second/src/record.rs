@@ -1,12 +1,10 @@
 //! A record, read and taken apart. The names are those of paper 01's table, in its order.
 
+use crate::machine::PC;
 use crate::number::{Number, DONE};
 use crate::word;
 
 pub type Register = u8;
-pub const SP: Register = 13;
-pub const LR: Register = 14;
-pub const PC: Register = 15;
 
 pub type Condition = u8;
 /// The last of "EQ NE CS CC MI PL VS VC HI LS GE LT GT LE AL".

@@ -1,5 +1,6 @@
 //! "Restricted (3)" and "Block spots (4)".
 
+use crate::machine::{LR, PC, SP};
 use crate::number::{Number, MISPLACED, RESTRICTED};
 use crate::record::*;
 use crate::word;

@@ -1,18 +1,20 @@
 -- Signed words. A local of type i32 is its bits, `ofZ w32 z`, and an operation reads them back by `toZ w32`.
-use Prim.Native.Nat.{ℕ, zero, suc, _+_, _-_, _%_, _^_, _≤_, _<_}
+use Prim.Native.Nat.{ℕ, zero, suc, _+_, _-_, _*_, _/_, _%_, _^_, _≤_, _<_}
 use mathlib.Core.Path.{_≡_, refl, sym, ap, _∙_, subst}
 use mathlib.Core.Bool.{Bool, true, false}
 use native.Mathlib.Omega.{arith}
-use native.Mathlib.Nat.{mod-eq-of-lt}
+use native.Mathlib.Nat.{mod-eq-of-lt, mod-lt, add-mod-mod, div-add-mod'}
+use lib.Pow.{pow-pos, pow-lt}
 use borrow.Author.Tests.{ltb-true, lt-ltb, le-ltb, lt-leb, le-leb}
 use lib.Dec.{T}
 use lib.IntN.{ℤ, pos, negsuc, _-ℤ_, _+ℤ_}
 use lib.Signed.{ltZ}
-use mir.Syntax.{w32}
-use mir.Val.{SFits, toZ, ofZ}
+use mir.Syntax.{Width, w8, w16, w32, w64, w128}
+use mir.Val.{SFits, toZ, ofZ, bits, hbits}
 use mir.Facts.{toZ-ofZ}
 use Rattle.word.specs.Word.{signed, signed-in, wrapped}
 use Rattle.word.proofs.Cases.{cases, le-or-gt}
+use Rattle.word.proofs.Numbers.{same-rest}
 
 pub signed-small : (x : ℕ) → x < 2 ^ 31 → signed x ≡ pos x
 unfolding signed-in
@@ -29,22 +31,34 @@ signed-bits x h =
     (λ l. rw (signed-large x l h, le-ltb x (2 ^ 31) l))
     (λ l. rw (signed-small x l, lt-ltb x (2 ^ 31) l))
 
--- the bits of an i32 are the integer modulo 2 ^ 32
-pub wrapped-bits : (z : ℤ) → SFits w32 z → ofZ w32 z ≡ wrapped 32 z
-unfolding wrapped
-wrapped-bits (pos n) f = sym (mod-eq-of-lt (omega (arith, f .sfits)))
-wrapped-bits (negsuc n) f = let e : n % 2 ^ 32 ≡ n = mod-eq-of-lt (omega (arith, f .sfits)) in rw e (omega (arith, f .sfits))
+-- the bits of a signed number of any width are the integer modulo 2 ^ that width
+less : (w : Width) → hbits w < bits w
+less w8 = omega arith
+less w16 = omega arith
+less w32 = omega arith
+less w64 = omega arith
+less w128 = omega arith
 
--- an i32 whose bits are known
-pub of-bits : (z : ℤ) (n : ℕ) → SFits w32 z → ofZ w32 z ≡ n → z ≡ toZ w32 n
-of-bits z n f e = sym (toZ-ofZ f) ∙ ap (toZ w32) e
+half-less : (w : Width) → 2 ^ hbits w < 2 ^ bits w
+half-less w = pow-lt (less w)
+
+pub wrapped-bits : {w : Width} (z : ℤ) → SFits w z → ofZ w z ≡ wrapped (bits w) z
+unfolding wrapped
+wrapped-bits {w} (pos n) f = sym (mod-eq-of-lt (omega (arith, f .sfits, half-less w)))
+wrapped-bits {w} (negsuc n) f =
+    let e : n % 2 ^ bits w ≡ n = mod-eq-of-lt (omega (arith, f .sfits, half-less w)) in
+    rw e (omega (arith, f .sfits, half-less w))
+
+-- a signed number whose bits are known
+pub of-bits : {w : Width} (z : ℤ) (n : ℕ) → SFits w z → ofZ w z ≡ n → z ≡ toZ w n
+of-bits {w} z n f e = sym (toZ-ofZ f) ∙ ap (toZ w) e
 
 -- the test `z < 0` passed, or failed
-pub below-zero : (z : ℤ) → SFits w32 z → ltZ z (pos 0) ≡ true → (n : ℕ) × (z ≡ negsuc n) × (n < 2 ^ 31)
+pub below-zero : {w : Width} (z : ℤ) → SFits w z → ltZ z (pos 0) ≡ true → (n : ℕ) × (z ≡ negsuc n) × (n < 2 ^ hbits w)
 below-zero (pos n) f e = absurd (omega (arith, ltb-true n 0 e))
 below-zero (negsuc n) f e = (n, refl, f .sfits)
 
-pub from-zero : (z : ℤ) → SFits w32 z → ltZ z (pos 0) ≡ false → (n : ℕ) × (z ≡ pos n) × (n < 2 ^ 31)
+pub from-zero : {w : Width} (z : ℤ) → SFits w z → ltZ z (pos 0) ≡ false → (n : ℕ) × (z ≡ pos n) × (n < 2 ^ hbits w)
 from-zero (pos n) f e = (n, refl, f .sfits)
 from-zero (negsuc n) f e = let z : _≡_ {A = Bool} true false = e in absurd (subst (λ (b : Bool). T b) z tt)
 
@@ -55,3 +69,22 @@ minus-one-minus n = rw (le-ltb (suc n) 1 (omega arith)) (ap pos (omega arith))
 pub minus-one-less : (n : ℕ) → negsuc 0 -ℤ pos n ≡ negsuc n
 minus-one-less zero = refl
 minus-one-less (suc n) = ap negsuc (omega arith)
+
+-- a sum modulo 2 ^ k is the sum of the bits
+pub wrapped-add : (k x : ℕ) (z : ℤ) → wrapped k (pos x +ℤ z) ≡ (x + wrapped k z) % 2 ^ k
+unfolding wrapped
+wrapped-add k x (pos n) = sym (add-mod-mod x n (2 ^ k))
+wrapped-add k x (negsuc n) =
+    let m = 2 ^ k in
+    let n-parts = div-add-mod' n m in
+    let n-rest = mod-lt n (pow-pos k) in
+    cases (le-or-gt (suc n) x)
+    (λ l.
+    let e : x - suc n + (n / m + 1) * m ≡ x + (m - 1 - n % m) + 0 * m = omega arith in
+    rw (le-ltb x (suc n) l) (same-rest m (x - suc n) (x + (m - 1 - n % m)) (n / m + 1) 0 e))
+    (λ l.
+    let d = suc n - suc x in
+    let d-parts = div-add-mod' d m in
+    let d-rest = mod-lt d (pow-pos k) in
+    let e : m - 1 - d % m + n / m * m ≡ x + (m - 1 - n % m) + d / m * m = omega arith in
+    rw (lt-ltb x (suc n) l) (sym (mod-eq-of-lt {n = m - 1 - d % m} {m = m} (omega arith)) ∙ same-rest m (m - 1 - d % m) (x + (m - 1 - n % m)) (n / m) (d / m) e))

@@ -2,7 +2,7 @@
 use Prim.Native.Nat.{ℕ, _+_, _-_, _*_, _/_, _%_, _^_, _≤_, _<_}
 use mathlib.Core.Path.{_≡_, sym, ap, _∙_}
 use native.Mathlib.Omega.{arith}
-use native.Mathlib.Nat.{le-of-lt, mul-mod-left, mul-div-cancel, mul-assoc, div-eq-of-lt, lt-of-lt-of-le, sub-add-cancel}
+use native.Mathlib.Nat.{le-of-lt, mul-mod-left, mul-div-cancel, mul-assoc, div-eq-of-lt, lt-of-lt-of-le, sub-add-cancel, add-mul-mod-self-right}
 use lib.Pow.{pow-add, pow-pos, pow-mono}
 
 -- a shift by n is one by n - k and one by k
@@ -24,3 +24,7 @@ bit-clear x n k h =
 -- a number of k bits shifted down by k or more
 pub none-above : {x : ℕ} (n k : ℕ) → x < 2 ^ k → k ≤ n → x / 2 ^ n ≡ 0
 none-above n k h l = div-eq-of-lt (lt-of-lt-of-le h (pow-mono l))
+
+-- two numbers that differ by multiples of m leave the same rest
+pub same-rest : (m a b i j : ℕ) → a + i * m ≡ b + j * m → a % m ≡ b % m
+same-rest m a b i j e = sym (add-mul-mod-self-right a i m) ∙ ap (λ (n : ℕ). n % m) e ∙ add-mul-mod-self-right b j m

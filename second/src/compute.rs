@@ -1,0 +1,186 @@
+//! Kinds 01 to 0C. Operands come from the machine as it is, results go to the next one.
+
+use crate::machine::Machine;
+use crate::number::Number;
+use crate::record::*;
+use crate::word;
+
+pub fn compute(now: &Machine, next: &mut Machine, action: &Compute, s: bool) -> Result<(), Number> {
+    match *action {
+        Compute::Operate { op, rd, rn, operand } => {
+            let value = operate(now, next, op, s, rn, operand);
+            if op.only_compares() {
+                Ok(())
+            } else {
+                next.put(rd, value)
+            }
+        }
+        Compute::ShiftBy { shift, rd, rn, rs } => {
+            // "In kind 03 the amount is the number held in Rs (house)."
+            let (value, carry) = shifted(shift, now.operand(rn), now.operand(rs), now.c);
+            set_logic_flags(next, s, value, carry);
+            next.put(rd, value)
+        }
+        Compute::Product { op, rd, rn, rm, ra } => {
+            let value = product(op, now.operand(rn), now.operand(rm), now.operand(ra));
+            if s {
+                // "MULS sets N, Z."
+                next.set_nz(value);
+            }
+            next.put(rd, value)
+        }
+        Compute::Long { op, low, high, rn, rm } => {
+            let sum = word::join(now.operand(low), now.operand(high));
+            let (l, h) = word::split(long(op, now.operand(rn), now.operand(rm), sum));
+            next.put(low, l)?;
+            next.put(high, h)
+        }
+        Compute::Saturate { unsigned, rd, bits, rm, shift, s } => {
+            let x = shifted(shift, now.operand(rm), u32::from(s), now.c).0;
+            let (value, saturated) = saturate(unsigned, x, u32::from(bits));
+            // "Saturation only ever sets Q".
+            next.q |= saturated;
+            next.put(rd, value)
+        }
+        _ => plain(now, next, action),
+    }
+}
+
+/// Kinds that put one value in Rd and touch no flag.
+fn plain(now: &Machine, next: &mut Machine, action: &Compute) -> Result<(), Number> {
+    let (rd, value) = match *action {
+        Compute::Wide { subtracts, rd, rn, number } => {
+            let by = if subtracts { -i32::from(number) } else { i32::from(number) };
+            (rd, word::moved(now.base(rn), by))
+        }
+        Compute::Half { top: false, rd, number } => (rd, u32::from(number)),
+        Compute::Half { top: true, rd, number } => {
+            (rd, word::insert_field(now.operand(rd), u32::from(number), 16, 16))
+        }
+        Compute::Bits { op, rd, rm } => (rd, bits(op, now.operand(rm))),
+        Compute::Divide { unsigned: true, rd, rn, rm } => {
+            (rd, word::unsigned_quotient(now.operand(rn), now.operand(rm)))
+        }
+        Compute::Divide { unsigned: false, rd, rn, rm } => {
+            (rd, word::signed_quotient(now.operand(rn), now.operand(rm)))
+        }
+        Compute::Field { op, rd, rn, lsb, width } => {
+            let (d, x) = (now.operand(rd), now.operand(rn));
+            (rd, field(op, d, x, u32::from(lsb), u32::from(width)))
+        }
+        Compute::Extend { op, rd, rm, rotation } => {
+            (rd, extend(op, now.operand(rm).rotate_right(u32::from(rotation))))
+        }
+        Compute::Operate { .. }
+        | Compute::ShiftBy { .. }
+        | Compute::Product { .. }
+        | Compute::Long { .. }
+        | Compute::Saturate { .. } => return compute(now, next, action, false),
+    };
+    next.put(rd, value)
+}
+
+/// "Arithmetic sets all four"; "Logic, moves and kind 03 set N, Z and C from the shifter, never V."
+fn operate(now: &Machine, next: &mut Machine, op: Op, s: bool, rn: Register, operand: Operand) -> u32 {
+    let x = now.operand(rn);
+    let (y, carry) = second(now, operand);
+    let (value, c, v) = match op {
+        Op::Add | Op::Cmn => word::sum(x, y, false),
+        Op::Adc => word::sum(x, y, now.c),
+        Op::Sub | Op::Cmp => word::difference(x, y, true),
+        Op::Sbc => word::difference(x, y, now.c),
+        Op::Rsb => word::difference(y, x, true),
+        Op::And | Op::Tst => (x & y, carry, now.v),
+        Op::Orr => (x | y, carry, now.v),
+        Op::Eor | Op::Teq => (x ^ y, carry, now.v),
+        Op::Bic => (x & !y, carry, now.v),
+        Op::Orn => (x | !y, carry, now.v),
+        Op::Mov => (y, carry, now.v),
+        Op::Mvn => (!y, carry, now.v),
+    };
+    set_logic_flags(next, s, value, c);
+    if s {
+        next.v = v;
+    }
+    value
+}
+
+/// "N, Z, C, V change only with S."
+fn set_logic_flags(next: &mut Machine, s: bool, value: u32, carry: bool) {
+    if s {
+        next.set_nz(value);
+        next.c = carry;
+    }
+}
+
+/// The second operand and the shifter's carry.
+fn second(now: &Machine, operand: Operand) -> (u32, bool) {
+    match operand {
+        Operand::Shifted { rm, shift, n } => shifted(shift, now.operand(rm), u32::from(n), now.c),
+        Operand::Constant(constant) => (constant, word::constant_carry(constant, now.c)),
+    }
+}
+
+fn shifted(shift: Shift, x: u32, amount: u32, carry: bool) -> (u32, bool) {
+    match shift {
+        Shift::Lsl => word::lsl(x, amount, carry),
+        Shift::Lsr => word::lsr(x, amount, carry),
+        Shift::Asr => word::asr(x, amount, carry),
+        Shift::Ror => word::ror(x, amount, carry),
+        Shift::Rrx => word::rrx(x, carry),
+    }
+}
+
+fn bits(op: Bits, x: u32) -> u32 {
+    match op {
+        Bits::Clz => x.leading_zeros(),
+        Bits::Rev => x.swap_bytes(),
+        Bits::Rev16 => word::rev16(x),
+        Bits::Revsh => word::revsh(x),
+        Bits::Rbit => x.reverse_bits(),
+    }
+}
+
+fn product(op: Product, x: u32, y: u32, a: u32) -> u32 {
+    let xy = x.wrapping_mul(y);
+    match op {
+        Product::Mul => xy,
+        Product::Mla => a.wrapping_add(xy),
+        Product::Mls => a.wrapping_sub(xy),
+    }
+}
+
+fn long(op: Long, x: u32, y: u32, sum: u64) -> u64 {
+    match op {
+        Long::Umull => word::unsigned_product(x, y),
+        Long::Umlal => word::unsigned_product(x, y).wrapping_add(sum),
+        Long::Smull => word::signed_product(x, y),
+        Long::Smlal => word::signed_product(x, y).wrapping_add(sum),
+    }
+}
+
+fn saturate(unsigned: bool, x: u32, bits: u32) -> (u32, bool) {
+    if unsigned {
+        word::saturate_unsigned(x, bits)
+    } else {
+        word::saturate_signed(x, bits)
+    }
+}
+
+fn field(op: Field, d: u32, x: u32, lsb: u32, width: u32) -> u32 {
+    match op {
+        Field::Bfc => word::clear_field(d, lsb, width),
+        Field::Bfi => word::insert_field(d, x, lsb, width),
+        Field::Sbfx => word::extract_signed(x, lsb, width),
+        Field::Ubfx => word::extract_unsigned(x, lsb, width),
+    }
+}
+
+fn extend(op: Extend, x: u32) -> u32 {
+    match op {
+        Extend::Sxtb => word::sign_extend_byte(x),
+        Extend::Sxth => word::sign_extend_half(x),
+        Extend::Uxtb => x & 0xFF,
+        Extend::Uxth => x & 0xFFFF,
+    }
+}
