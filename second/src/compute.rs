@@ -6,82 +6,59 @@ use crate::record::*;
 use crate::word;
 
 pub fn compute(now: &Machine, next: &mut Machine, action: &Compute, s: bool) -> Result<(), Number> {
-    match *action {
+    let (rd, value) = match *action {
         Compute::Operate { op, rd, rn, operand } => {
             let value = operate(now, next, op, s, rn, operand);
             if op.only_compares() {
-                Ok(())
-            } else {
-                next.put(rd, value)
+                return Ok(());
             }
+            (rd, value)
         }
-        Compute::ShiftBy { shift, rd, rn, rs } => {
-            // "In kind 03 the amount is the number held in Rs (house)."
-            let (value, carry) = shifted(shift, now.operand(rn), now.operand(rs), now.c);
-            set_logic_flags(next, s, value, carry);
-            next.put(rd, value)
-        }
+        Compute::ShiftBy { shift, rd, rn, rs } => (rd, shift_by(now, next, s, shift, rn, rs)),
+        Compute::Wide { subtracts, rd, rn, number } => (rd, wide(subtracts, now.base(rn), number)),
+        Compute::Half { top, rd, number } => (rd, half(top, now.operand(rd), number)),
+        Compute::Bits { op, rd, rm } => (rd, bits(op, now.operand(rm))),
         Compute::Product { op, rd, rn, rm, ra } => {
             let value = product(op, now.operand(rn), now.operand(rm), now.operand(ra));
             if s {
                 // "MULS sets N, Z."
                 next.set_nz(value);
             }
-            next.put(rd, value)
+            (rd, value)
         }
         Compute::Long { op, low, high, rn, rm } => {
             let sum = word::join(now.operand(low), now.operand(high));
             let (l, h) = word::split(long(op, now.operand(rn), now.operand(rm), sum));
-            next.put(low, l)?;
-            next.put(high, h)
+            next.put(high, h)?;
+            (low, l)
+        }
+        Compute::Divide { unsigned, rd, rn, rm } => {
+            (rd, divide(unsigned, now.operand(rn), now.operand(rm)))
         }
         Compute::Saturate { unsigned, rd, bits, rm, shift, s } => {
             let x = shifted(shift, now.operand(rm), u32::from(s), now.c).0;
             let (value, saturated) = saturate(unsigned, x, u32::from(bits));
             // "Saturation only ever sets Q".
             next.q |= saturated;
-            next.put(rd, value)
-        }
-        _ => plain(now, next, action),
-    }
-}
-
-/// Kinds that put one value in Rd and touch no flag.
-fn plain(now: &Machine, next: &mut Machine, action: &Compute) -> Result<(), Number> {
-    let (rd, value) = match *action {
-        Compute::Wide { subtracts, rd, rn, number } => {
-            let by = if subtracts { -i32::from(number) } else { i32::from(number) };
-            (rd, word::moved(now.base(rn), by))
-        }
-        Compute::Half { top: false, rd, number } => (rd, u32::from(number)),
-        Compute::Half { top: true, rd, number } => {
-            (rd, word::insert_field(now.operand(rd), u32::from(number), 16, 16))
-        }
-        Compute::Bits { op, rd, rm } => (rd, bits(op, now.operand(rm))),
-        Compute::Divide { unsigned: true, rd, rn, rm } => {
-            (rd, word::unsigned_quotient(now.operand(rn), now.operand(rm)))
-        }
-        Compute::Divide { unsigned: false, rd, rn, rm } => {
-            (rd, word::signed_quotient(now.operand(rn), now.operand(rm)))
+            (rd, value)
         }
         Compute::Field { op, rd, rn, lsb, width } => {
-            let (d, x) = (now.operand(rd), now.operand(rn));
-            (rd, field(op, d, x, u32::from(lsb), u32::from(width)))
+            (rd, field(op, now.operand(rd), now.operand(rn), u32::from(lsb), u32::from(width)))
         }
-        Compute::Extend { op, rd, rm, rotation } => {
-            (rd, extend(op, now.operand(rm).rotate_right(u32::from(rotation))))
-        }
-        Compute::Operate { .. }
-        | Compute::ShiftBy { .. }
-        | Compute::Product { .. }
-        | Compute::Long { .. }
-        | Compute::Saturate { .. } => return compute(now, next, action, false),
+        Compute::Extend { op, rd, rm, rotation } => (rd, extend(op, now.operand(rm), rotation)),
     };
     next.put(rd, value)
 }
 
 /// "Arithmetic sets all four"; "Logic, moves and kind 03 set N, Z and C from the shifter, never V."
-fn operate(now: &Machine, next: &mut Machine, op: Op, s: bool, rn: Register, operand: Operand) -> u32 {
+fn operate(
+    now: &Machine,
+    next: &mut Machine,
+    op: Op,
+    s: bool,
+    rn: Register,
+    operand: Operand,
+) -> u32 {
     let x = now.operand(rn);
     let (y, carry) = second(now, operand);
     let (value, c, v) = match op {
@@ -105,6 +82,20 @@ fn operate(now: &Machine, next: &mut Machine, op: Op, s: bool, rn: Register, ope
     value
 }
 
+/// "In kind 03 the amount is the number held in Rs (house)."
+fn shift_by(
+    now: &Machine,
+    next: &mut Machine,
+    s: bool,
+    shift: Shift,
+    rn: Register,
+    rs: Register,
+) -> u32 {
+    let (value, carry) = shifted(shift, now.operand(rn), now.operand(rs), now.c);
+    set_logic_flags(next, s, value, carry);
+    value
+}
+
 /// "N, Z, C, V change only with S."
 fn set_logic_flags(next: &mut Machine, s: bool, value: u32, carry: bool) {
     if s {
@@ -121,7 +112,7 @@ fn second(now: &Machine, operand: Operand) -> (u32, bool) {
     }
 }
 
-fn shifted(shift: Shift, x: u32, amount: u32, carry: bool) -> (u32, bool) {
+pub fn shifted(shift: Shift, x: u32, amount: u32, carry: bool) -> (u32, bool) {
     match shift {
         Shift::Lsl => word::lsl(x, amount, carry),
         Shift::Lsr => word::lsr(x, amount, carry),
@@ -131,7 +122,22 @@ fn shifted(shift: Shift, x: u32, amount: u32, carry: bool) -> (u32, bool) {
     }
 }
 
-fn bits(op: Bits, x: u32) -> u32 {
+fn wide(subtracts: bool, x: u32, number: u16) -> u32 {
+    let number = i32::from(number);
+    word::moved(x, if subtracts { -number } else { number })
+}
+
+/// MOVT keeps the low half of Rd.
+fn half(top: bool, d: u32, number: u16) -> u32 {
+    let number = u32::from(number);
+    if top {
+        word::insert_field(d, number, 16, 16)
+    } else {
+        number
+    }
+}
+
+pub fn bits(op: Bits, x: u32) -> u32 {
     match op {
         Bits::Clz => x.leading_zeros(),
         Bits::Rev => x.swap_bytes(),
@@ -141,7 +147,7 @@ fn bits(op: Bits, x: u32) -> u32 {
     }
 }
 
-fn product(op: Product, x: u32, y: u32, a: u32) -> u32 {
+pub fn product(op: Product, x: u32, y: u32, a: u32) -> u32 {
     let xy = x.wrapping_mul(y);
     match op {
         Product::Mul => xy,
@@ -150,7 +156,7 @@ fn product(op: Product, x: u32, y: u32, a: u32) -> u32 {
     }
 }
 
-fn long(op: Long, x: u32, y: u32, sum: u64) -> u64 {
+pub fn long(op: Long, x: u32, y: u32, sum: u64) -> u64 {
     match op {
         Long::Umull => word::unsigned_product(x, y),
         Long::Umlal => word::unsigned_product(x, y).wrapping_add(sum),
@@ -159,7 +165,15 @@ fn long(op: Long, x: u32, y: u32, sum: u64) -> u64 {
     }
 }
 
-fn saturate(unsigned: bool, x: u32, bits: u32) -> (u32, bool) {
+pub fn divide(unsigned: bool, x: u32, y: u32) -> u32 {
+    if unsigned {
+        word::unsigned_quotient(x, y)
+    } else {
+        word::signed_quotient(x, y)
+    }
+}
+
+pub fn saturate(unsigned: bool, x: u32, bits: u32) -> (u32, bool) {
     if unsigned {
         word::saturate_unsigned(x, bits)
     } else {
@@ -167,7 +181,7 @@ fn saturate(unsigned: bool, x: u32, bits: u32) -> (u32, bool) {
     }
 }
 
-fn field(op: Field, d: u32, x: u32, lsb: u32, width: u32) -> u32 {
+pub fn field(op: Field, d: u32, x: u32, lsb: u32, width: u32) -> u32 {
     match op {
         Field::Bfc => word::clear_field(d, lsb, width),
         Field::Bfi => word::insert_field(d, x, lsb, width),
@@ -176,7 +190,8 @@ fn field(op: Field, d: u32, x: u32, lsb: u32, width: u32) -> u32 {
     }
 }
 
-fn extend(op: Extend, x: u32) -> u32 {
+pub fn extend(op: Extend, x: u32, rotation: u8) -> u32 {
+    let x = x.rotate_right(u32::from(rotation));
     match op {
         Extend::Sxtb => word::sign_extend_byte(x),
         Extend::Sxth => word::sign_extend_half(x),

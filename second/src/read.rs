@@ -10,8 +10,22 @@ use crate::word;
 const BODY: [usize; 21] = [7, 8, 5, 6, 5, 4, 6, 6, 5, 7, 6, 5, 7, 6, 8, 6, 7, 3, 4, 4, 1];
 
 const OPS: [Op; 16] = [
-    Op::Add, Op::Adc, Op::Sub, Op::Sbc, Op::Rsb, Op::And, Op::Orr, Op::Eor,
-    Op::Bic, Op::Orn, Op::Mov, Op::Mvn, Op::Cmp, Op::Cmn, Op::Tst, Op::Teq,
+    Op::Add,
+    Op::Adc,
+    Op::Sub,
+    Op::Sbc,
+    Op::Rsb,
+    Op::And,
+    Op::Orr,
+    Op::Eor,
+    Op::Bic,
+    Op::Orn,
+    Op::Mov,
+    Op::Mvn,
+    Op::Cmp,
+    Op::Cmn,
+    Op::Tst,
+    Op::Teq,
 ];
 const SHIFTS: [Shift; 5] = [Shift::Lsl, Shift::Lsr, Shift::Asr, Shift::Ror, Shift::Rrx];
 const BITS: [Bits; 5] = [Bits::Clz, Bits::Rev, Bits::Rev16, Bits::Revsh, Bits::Rbit];
@@ -20,10 +34,17 @@ const LONGS: [Long; 4] = [Long::Umull, Long::Umlal, Long::Smull, Long::Smlal];
 const FIELDS: [Field; 4] = [Field::Bfc, Field::Bfi, Field::Sbfx, Field::Ubfx];
 const EXTENDS: [Extend; 4] = [Extend::Sxtb, Extend::Sxth, Extend::Uxtb, Extend::Uxth];
 const SINGLES: [Single; 8] = [
-    Single::Ldr, Single::Ldrb, Single::Ldrh, Single::Ldrsb, Single::Ldrsh,
-    Single::Str, Single::Strb, Single::Strh,
+    Single::Ldr,
+    Single::Ldrb,
+    Single::Ldrh,
+    Single::Ldrsb,
+    Single::Ldrsh,
+    Single::Str,
+    Single::Strb,
+    Single::Strh,
 ];
-const MULTIPLES: [Multiple; 4] = [Multiple::Ldmia, Multiple::Ldmdb, Multiple::Stmia, Multiple::Stmdb];
+const MULTIPLES: [Multiple; 4] =
+    [Multiple::Ldmia, Multiple::Ldmdb, Multiple::Stmia, Multiple::Stmdb];
 const MODES: [Mode; 3] = [Mode::Offset, Mode::PreIndexed, Mode::PostIndexed];
 
 /// The record at a place of a listing and the listing bytes it takes.
@@ -203,16 +224,31 @@ fn single(op: u8, rt: u8, rn: u8, mode: u8, offset: i16) -> Option<Access> {
 
 fn access(kind: u8, body: &[u8]) -> Option<Access> {
     match (kind, body) {
-        (0x0D, &[op, _, rt, rn, mode, a, b]) => single(op, rt, rn, mode, i16::from_le_bytes([a, b])),
+        (0x0D, &[op, _, rt, rn, mode, a, b]) => {
+            single(op, rt, rn, mode, i16::from_le_bytes([a, b]))
+        }
         (0x0E, &[op, _, rt, rn, rm, n]) => {
             ensure(n <= 3)?;
-            Some(Access::Indexed { op: pick(&SINGLES, op)?, rt: reg(rt)?, rn: reg(rn)?, rm: reg(rm)?, n })
+            Some(Access::Indexed {
+                op: pick(&SINGLES, op)?,
+                rt: reg(rt)?,
+                rn: reg(rn)?,
+                rm: reg(rm)?,
+                n,
+            })
         }
         (0x0F, &[op, _, rt, rt2, rn, mode, a, b]) => {
             let (stores, mode) = (one(op)?, pick(&MODES, mode)?);
             let offset = i16::from_le_bytes([a, b]);
             ensure(offset % 4 == 0 && (-1020..=1020).contains(&offset))?;
-            Some(Access::Double { stores, rt: reg(rt)?, rt2: reg(rt2)?, rn: reg(rn)?, mode, offset })
+            Some(Access::Double {
+                stores,
+                rt: reg(rt)?,
+                rt2: reg(rt2)?,
+                rn: reg(rn)?,
+                mode,
+                offset,
+            })
         }
         (0x10, &[op, _, rn, write_back, a, b]) => {
             let (op, list) = (pick(&MULTIPLES, op)?, u16::from_le_bytes([a, b]));

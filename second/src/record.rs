@@ -218,7 +218,9 @@ impl Record {
             Action::Compute(Compute::Operate { op: Op::Mov | Op::Add, rd, .. }) => rd == PC,
             Action::Access(Access::Single { op: Single::Ldr, rt, .. }) => rt == PC,
             Action::Access(Access::Indexed { op: Single::Ldr, rt, .. }) => rt == PC,
-            Action::Access(Access::Multiple { op, list, .. }) => op.loads() && word::holds(list, PC),
+            Action::Access(Access::Multiple { op, list, .. }) => {
+                op.loads() && word::holds(list, PC)
+            }
             _ => false,
         }
     }

@@ -116,8 +116,7 @@ fn multiple_restricted(loads: bool, rn: Register, write_back: bool, list: u16) -
     let has_pc = word::holds(list, PC);
     list == 0
         || word::holds(list, SP)
-        || !loads && has_pc
-        || loads && has_pc && word::holds(list, LR)
+        || has_pc && (!loads || word::holds(list, LR))
         || write_back && word::holds(list, rn)
         || rn == PC
 }

@@ -34,15 +34,16 @@ pub fn lsr(x: u32, amount: u32, carry: bool) -> Shifted
     if amount == 0 {
         return Shifted { value: x, carry };
     }
-    if amount > 32 {
+    if 33 <= amount {
         return Shifted {
             value: 0,
             carry: false,
         };
     }
+    let last = word::bit_of(amount - 1, x);
     Shifted {
         value: (x as u64 >> amount) as u32,
-        carry: word::bit_of(amount - 1, x),
+        carry: last,
     }
 }
 
@@ -76,7 +77,8 @@ pub fn rotate_right(x: u32, amount: u32) -> u32
 pub fn ror(x: u32, amount: u32, carry: bool) -> Shifted
     ensures { λ r. ⌜ r ≡ ROR x amount carry ⌝ }
 {
-    if amount == 0 {
+    let none = amount == 0;
+    if none {
         return Shifted { value: x, carry };
     }
     let value = rotate_right(x, amount);

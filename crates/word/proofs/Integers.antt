@@ -11,7 +11,7 @@ use lib.IntN.{ℤ, pos, negsuc, _-ℤ_, _+ℤ_}
 use lib.Signed.{ltZ}
 use mir.Syntax.{Width, w8, w16, w32, w64, w128}
 use mir.Val.{SFits, toZ, ofZ, bits, hbits}
-use mir.Facts.{toZ-ofZ}
+use mir.Facts.{toZ-ofZ, ofZ-toZ, sfits-toZ}
 use Rattle.word.specs.Word.{signed, signed-in, wrapped}
 use Rattle.word.proofs.Cases.{cases, le-or-gt}
 use Rattle.word.proofs.Numbers.{same-rest}
@@ -48,6 +48,13 @@ wrapped-bits {w} (pos n) f = sym (mod-eq-of-lt (omega (arith, f .sfits, half-les
 wrapped-bits {w} (negsuc n) f =
     let e : n % 2 ^ bits w ≡ n = mod-eq-of-lt (omega (arith, f .sfits, half-less w)) in
     rw e (omega (arith, f .sfits, half-less w))
+
+-- a word's signed number has the word's bits
+pub wrapped-signed : (x : ℕ) → x < 2 ^ 32 → wrapped 32 (signed x) ≡ x
+wrapped-signed x h =
+    let e = signed-bits x h in
+    let f : SFits w32 (signed x) = rw e at (sfits-toZ {w = w32} {n = x} (record { fits = h })) in
+    sym (wrapped-bits (signed x) f) ∙ rw (← e) (ofZ-toZ {w = w32} {n = x} (record { fits = h }))
 
 -- a signed number whose bits are known
 pub of-bits : {w : Width} (z : ℤ) (n : ℕ) → SFits w z → ofZ w z ≡ n → z ≡ toZ w n

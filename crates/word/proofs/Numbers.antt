@@ -1,9 +1,14 @@
 -- Numbers shifted by powers of two.
 use Prim.Native.Nat.{ℕ, _+_, _-_, _*_, _/_, _%_, _^_, _≤_, _<_}
 use mathlib.Core.Path.{_≡_, sym, ap, _∙_}
+use mathlib.Core.Bool.{Bool, true, false}
 use native.Mathlib.Omega.{arith}
 use native.Mathlib.Nat.{le-of-lt, mul-mod-left, mul-div-cancel, mul-assoc, div-eq-of-lt, lt-of-lt-of-le, sub-add-cancel, add-mul-mod-self-right}
-use lib.Pow.{pow-add, pow-pos, pow-mono}
+use lib.Dec.{eqb}
+use lib.Pow.{pow-add, pow-pos, pow-mono, mod-pow-add, shl-shr}
+use borrow.Author.Tests.{eq-eqb, ne-eqb, le-leb, lt-leb}
+use Rattle.word.specs.Word.{negative, one-if}
+use Rattle.word.proofs.Cases.{cases, le-or-gt}
 
 -- a shift by n is one by n - k and one by k
 pub shift-apart : (x n k : ℕ) → k ≤ n → x * 2 ^ n ≡ x * 2 ^ (n - k) * 2 ^ k
@@ -28,3 +33,18 @@ none-above n k h l = div-eq-of-lt (lt-of-lt-of-le h (pow-mono l))
 -- two numbers that differ by multiples of m leave the same rest
 pub same-rest : (m a b i j : ℕ) → a + i * m ≡ b + j * m → a % m ≡ b % m
 same-rest m a b i j e = sym (add-mul-mod-self-right a i m) ∙ ap (λ (n : ℕ). n % m) e ∙ add-mul-mod-self-right b j m
+
+-- of x shifted up by k, the low j + k bits are the low j bits of x
+pub shift-mod : (x j k : ℕ) → x * 2 ^ k % 2 ^ (j + k) ≡ x % 2 ^ j * 2 ^ k
+shift-mod x j k = rw (mod-pow-add (x * 2 ^ k) j k, shl-shr x k, mul-mod-left x (2 ^ k)) (omega arith)
+
+-- bit 31 of a word by its shift
+pub top-bit : (x : ℕ) → x < 2 ^ 32 → eqb (x / 2 ^ 31) 1 ≡ negative x
+top-bit x h =
+    cases (le-or-gt (2 ^ 31) x)
+    (λ l. eq-eqb (x / 2 ^ 31) 1 (omega arith) ∙ sym (le-leb (2 ^ 31) x l))
+    (λ l. ne-eqb (x / 2 ^ 31) 1 (omega arith) ∙ sym (lt-leb (2 ^ 31) x l))
+
+pub one-if-le : (b : Bool) → one-if b ≤ 1
+one-if-le true = omega arith
+one-if-le false = omega arith

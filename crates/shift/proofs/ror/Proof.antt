@@ -1,21 +1,24 @@
+use Prim.Native.Nat.{_+_, _*_, _/_, _%_, _^_}
+use mathlib.Core.Path.{_≡_}
+use native.Mathlib.Omega.{arith}
 use borrow.Author.Needs.{needs}
+use borrow.Author.Tests.{eqb-true}
+use Rattle.word.proofs.Numbers.{top-bit}
+use Rattle.shift.specs.Shift.{ROR, rotated}
 use Rattle.shift.proofs.ror.Statement.{statement}
 use Rattle.shift.proofs.ror.Tie as tie
-use Rattle.shift.proofs.ror.Reads as reads
-use Rattle.shift.proofs.ror.Lts as lts
-use Rattle.shift.proofs.rotate_right.Reads as rotate-right-reads
 
--- src/lib.rt:80:9
 returns : tie.Need-returns
-returns c = ?
+unfolding ROR rotated
+returns c =
+    let a = c .before .args in
+    let v : a .x / 2 ^ 0 + a .x % 2 ^ 0 * 2 ^ 32 ≡ a .x = omega arith in
+    rw (eqb-true (a .amount) 0 (c .if1 .taken), v)
 
--- src/lib.rt:82:9
-rotate-right-requires : tie.Need-rotate-right-requires
-rotate-right-requires c κs = search needs
-
--- src/lib.rt:76:1
 returns-2 : tie.Need-returns-2
-returns-2 c = ?
+unfolding ROR
+returns-2 c =
+    simp (← c .rotate-right .ensures, top-bit (c .rotate-right .result) (omega arith), c .before .if1 .left)
 
 pub ror-spec : {M : Type 1} → statement M
-ror-spec = tie.close (tie.spec returns rotate-right-requires returns-2)
+ror-spec = tie.close (tie.spec returns (λ c κs. search needs) returns-2)

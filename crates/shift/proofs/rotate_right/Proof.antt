@@ -1,32 +1,24 @@
+use Prim.Native.Nat.{_-_, _*_, _%_, _^_}
+use native.Mathlib.Omega.{arith}
+use lib.Bits.{bitAnd, and-mask, mask-lt}
 use borrow.Author.Needs.{needs}
+use Rattle.shift.proofs.Laws.{turned}
 use Rattle.shift.proofs.rotate_right.Statement.{statement}
 use Rattle.shift.proofs.rotate_right.Tie as tie
-use Rattle.shift.proofs.rotate_right.Reads as reads
-use Rattle.shift.proofs.rotate_right.Lts as lts
 
--- src/lib.rt:72:31
 sub-wide : tie.Need-sub-wide
-sub-wide c = ?
+sub-wide c = omega (arith, mask-lt (c .args .amount) 5)
 
--- src/lib.rt:72:31
-cast-wide : tie.Need-cast-wide
-cast-wide c = search needs
-
--- src/lib.rt:72:16
-shl-wide : tie.Need-shl-wide
-shl-wide c = search needs
-
--- src/lib.rt:73:5
 cast-result : tie.Need-cast-result
-cast-result c = ?
+cast-result c =
+    let turn = bitAnd (c .args .amount) 31 in
+    record { fits = mask-lt (c .args .x * 2 ^ (32 - turn) % 2 ^ 64) 32 }
 
--- src/lib.rt:73:36
 shr-result : tie.Need-shr-result
-shr-result c = ?
+shr-result c = mask-lt (c .args .amount) 5
 
--- src/lib.rt:68:1
 returns : tie.Need-returns
-returns c = ?
+returns c = rw (and-mask (c .args .amount) 5) (turned (c .args .x) (c .args .amount % 2 ^ 5) (omega arith) (omega arith))
 
 pub rotate-right-spec : {M : Type 1} → statement M
-rotate-right-spec = tie.close (tie.spec sub-wide cast-wide shl-wide cast-result shr-result returns)
+rotate-right-spec = tie.close (tie.spec sub-wide (λ c. search needs) (λ c. search needs) cast-result shr-result returns)

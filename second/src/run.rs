@@ -1,0 +1,55 @@
+//! A run of a listing within a budget of steps.
+
+use crate::check::layout;
+use crate::machine::Machine;
+use crate::memory::Memory;
+use crate::number::{Number, DONE, STRAY, UNFIT, USED_UP};
+use crate::step::step;
+
+#[derive(Clone, Copy, PartialEq, Eq, Debug)]
+pub struct Ran {
+    pub number: Number,
+    pub place: u32,
+    pub count: u32,
+}
+
+/// "A run tests machine and memory (1), then the check, then each round: end (0), stray (8), steps
+/// used up (10), step." "A run also gives a place: the check's if the check refused, the record's
+/// for a refused step, else 0."
+pub fn run(
+    machine: &mut Machine,
+    listing: &[u8],
+    listing_base: u32,
+    memory: &mut [u8],
+    memory_base: u32,
+    budget: u32,
+) -> Ran {
+    if !machine.good() || Memory::lent(memory, memory_base).is_err() {
+        return Ran { number: UNFIT, place: 0, count: 0 };
+    }
+    let layout = match layout(listing, listing_base) {
+        Ok(layout) => layout,
+        Err((number, place)) => return Ran { number, place: place as u32, count: 0 },
+    };
+    let mut count = 0;
+    loop {
+        if machine.address() == layout.end() && machine.waiting.is_empty() {
+            return Ran { number: DONE, place: 0, count };
+        }
+        // "R15 is neither a record's address nor the end, or the waiting list differs from the
+        // layout's there"; at the end the layout has none (R22).
+        let here = layout.at(machine.address()).filter(|entry| entry.waiting == machine.waiting);
+        let Some(entry) = here else {
+            return Ran { number: STRAY, place: 0, count };
+        };
+        if count == budget {
+            return Ran { number: USED_UP, place: 0, count };
+        }
+        let record = &listing[entry.place..entry.place + entry.length];
+        let number = step(machine, record, memory, memory_base);
+        if number != DONE {
+            return Ran { number, place: entry.place as u32, count };
+        }
+        count += 1;
+    }
+}

@@ -1,0 +1,110 @@
+//! "A step takes the machine and a record and hands back the next machine."
+
+use crate::access::access;
+use crate::compute::compute;
+use crate::machine::{Machine, Waiting, LR, PC};
+use crate::memory::Memory;
+use crate::number::{Number, DONE, UNFIT};
+use crate::read::read_one;
+use crate::record::{Action, Condition, Control, Record, AL};
+use crate::rules::refusal;
+use crate::word;
+
+/// The number 0 to 7. Machine and memory change only with 0: "A refused step writes nothing."
+pub fn step(machine: &mut Machine, record: &[u8], memory: &mut [u8], base: u32) -> Number {
+    match tried(machine, record, memory, base) {
+        Ok(next) => {
+            *machine = next;
+            DONE
+        }
+        Err(number) => number,
+    }
+}
+
+/// "The lowest number that applies to a step is given." "Numbers 1 to 4 apply even when the
+/// condition fails; 5 to 7 only when it passes."
+fn tried(now: &Machine, record: &[u8], memory: &mut [u8], base: u32) -> Result<Machine, Number> {
+    if !now.good() {
+        return Err(UNFIT);
+    }
+    let mut memory = Memory::lent(memory, base)?;
+    let record = read_one(record)?;
+    if let Some(number) = refusal(&record, now.waiting.len()) {
+        return Err(number);
+    }
+    // "A failed condition changes only R15 (next record). Either way the waiting condition is dropped"
+    let mut next = *now;
+    next.put(PC, next_address(now, &record))?;
+    next.waiting = now.waiting.rest();
+    if now.passes(ruling(now, &record)) {
+        act(now, &mut next, &record, &mut memory)?;
+    }
+    Ok(next)
+}
+
+fn next_address(now: &Machine, record: &Record) -> u32 {
+    now.address().wrapping_add(record.machine_length())
+}
+
+/// "If a condition is waiting, the first one rules; kind 11 outside a block uses its own."
+fn ruling(now: &Machine, record: &Record) -> Condition {
+    match (now.waiting.first(), record.action) {
+        (Some(first), _) => first,
+        (None, Action::Control(Control::Branch { condition, .. })) => condition,
+        _ => AL,
+    }
+}
+
+fn act(
+    now: &Machine,
+    next: &mut Machine,
+    record: &Record,
+    memory: &mut Memory,
+) -> Result<(), Number> {
+    match record.action {
+        Action::Compute(action) => compute(now, next, &action, record.s),
+        Action::Access(action) => access(now, next, &action, memory),
+        Action::Control(action) => control(now, next, record, &action),
+    }
+}
+
+fn control(
+    now: &Machine,
+    next: &mut Machine,
+    record: &Record,
+    action: &Control,
+) -> Result<(), Number> {
+    // "BL, BLX set R14 to the next address with bit 0 set"
+    let back = word::link(next_address(now, record));
+    match *action {
+        Control::Branch { links, .. } => {
+            if links {
+                next.put(LR, back)?;
+            }
+            go_direct(now, next, record)
+        }
+        // "BLX reads Rm first."
+        Control::BranchTo { links, rm } => {
+            if links {
+                next.put(LR, back)?;
+            }
+            next.go(now.operand(rm))
+        }
+        Control::CompareBranch { nonzero, rn, .. } if (now.get(rn) != 0) == nonzero => {
+            go_direct(now, next, record)
+        }
+        // "IT sets the list."
+        Control::IfThen { condition, count, elses } => {
+            next.waiting = Waiting::block(condition, count, elses);
+            Ok(())
+        }
+        Control::CompareBranch { .. } | Control::Nop => Ok(()),
+    }
+}
+
+fn go_direct(now: &Machine, next: &mut Machine, record: &Record) -> Result<(), Number> {
+    match record.direct_target(now.address()) {
+        Some(target) => next.put(PC, target),
+        None => Ok(()),
+    }
+}
