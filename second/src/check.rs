@@ -13,7 +13,7 @@ const HIGHEST_END: u64 = 0xFFFF_FFFE;
 #[derive(Clone, Copy)]
 pub struct Entry {
     pub place: usize,
-    pub length: usize,
+    pub record: Record,
     pub waiting: Waiting,
 }
 
@@ -94,7 +94,7 @@ fn walk(listing: &[u8], base: u32) -> Result<Walk, (Number, usize)> {
         if let Some(number) = refusal(&record, waiting.len()) {
             return Err((number, place));
         }
-        walk.add(&record, Entry { place, length, waiting });
+        walk.add(Entry { place, record, waiting });
         waiting = after(&record, waiting);
         place += length;
     }
@@ -106,16 +106,16 @@ fn walk(listing: &[u8], base: u32) -> Result<Walk, (Number, usize)> {
 }
 
 impl Walk {
-    fn add(&mut self, record: &Record, entry: Entry) {
+    fn add(&mut self, entry: Entry) {
         // Past 2^32 the address is of no account, for the end is then too high.
-        if let Some(target) = record.direct_target(self.end as u32) {
+        if let Some(target) = entry.record.direct_target(self.end as u32) {
             self.jumps.push(Jump { place: entry.place, target });
         }
         self.slots.push(Some(entry));
-        if record.four_bytes {
+        if entry.record.four_bytes {
             self.slots.push(None);
         }
-        self.end += u64::from(record.machine_length());
+        self.end += u64::from(entry.record.machine_length());
     }
 }
 

@@ -17,10 +17,10 @@ pub fn refusal(record: &Record, waiting: usize) -> Option<Number> {
 }
 
 pub fn restricted(record: &Record) -> bool {
-    match record.action {
-        Action::Compute(compute) => compute_restricted(&compute, record.s),
-        Action::Access(access) => access_restricted(&access),
-        Action::Control(control) => control_restricted(&control),
+    match &record.action {
+        Action::Compute(compute) => compute_restricted(compute, record.s),
+        Action::Access(access) => access_restricted(access),
+        Action::Control(control) => control_restricted(control),
     }
 }
 

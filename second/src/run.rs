@@ -1,10 +1,10 @@
 //! A run of a listing within a budget of steps.
 
-use crate::check::layout;
+use crate::check::{layout, Layout};
 use crate::machine::Machine;
 use crate::memory::Memory;
 use crate::number::{Number, DONE, STRAY, UNFIT, USED_UP};
-use crate::step::step;
+use crate::step::perform;
 
 #[derive(Clone, Copy, PartialEq, Eq, Debug)]
 pub struct Ran {
@@ -24,13 +24,20 @@ pub fn run(
     memory_base: u32,
     budget: u32,
 ) -> Ran {
-    if !machine.good() || Memory::lent(memory, memory_base).is_err() {
-        return Ran { number: UNFIT, place: 0, count: 0 };
-    }
+    let mut memory = match Memory::lent(memory, memory_base) {
+        Ok(memory) if machine.good() => memory,
+        _ => return Ran { number: UNFIT, place: 0, count: 0 },
+    };
     let layout = match layout(listing, listing_base) {
         Ok(layout) => layout,
         Err((number, place)) => return Ran { number, place: place as u32, count: 0 },
     };
+    rounds(machine, &layout, &mut memory, budget)
+}
+
+/// A step leaves a good machine, and a record of the layout with the layout's conditions waiting is
+/// free of 2 to 4; so numbers 1 to 4 need no second test.
+fn rounds(machine: &mut Machine, layout: &Layout, memory: &mut Memory, budget: u32) -> Ran {
     let mut count = 0;
     loop {
         if machine.address() == layout.end() && machine.waiting.is_empty() {
@@ -45,8 +52,7 @@ pub fn run(
         if count == budget {
             return Ran { number: USED_UP, place: 0, count };
         }
-        let record = &listing[entry.place..entry.place + entry.length];
-        let number = step(machine, record, memory, memory_base);
+        let number = perform(machine, &entry.record, memory);
         if number != DONE {
             return Ran { number, place: entry.place as u32, count };
         }

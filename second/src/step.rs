@@ -12,34 +12,56 @@ use crate::word;
 
 /// The number 0 to 7. Machine and memory change only with 0: "A refused step writes nothing."
 pub fn step(machine: &mut Machine, record: &[u8], memory: &mut [u8], base: u32) -> Number {
-    match tried(machine, record, memory, base) {
-        Ok(next) => {
-            *machine = next;
-            DONE
-        }
+    match admitted(machine, record, memory, base) {
+        Ok((record, mut memory)) => perform(machine, &record, &mut memory),
         Err(number) => number,
     }
 }
 
-/// "The lowest number that applies to a step is given." "Numbers 1 to 4 apply even when the
-/// condition fails; 5 to 7 only when it passes."
-fn tried(now: &Machine, record: &[u8], memory: &mut [u8], base: u32) -> Result<Machine, Number> {
-    if !now.good() {
+/// Numbers 1 to 4, which "apply even when the condition fails", the lowest first.
+fn admitted<'a>(
+    machine: &Machine,
+    record: &[u8],
+    memory: &'a mut [u8],
+    base: u32,
+) -> Result<(Record, Memory<'a>), Number> {
+    if !machine.good() {
         return Err(UNFIT);
     }
-    let mut memory = Memory::lent(memory, base)?;
+    let memory = Memory::lent(memory, base)?;
     let record = read_one(record)?;
-    if let Some(number) = refusal(&record, now.waiting.len()) {
-        return Err(number);
+    match refusal(&record, machine.waiting.len()) {
+        Some(number) => Err(number),
+        None => Ok((record, memory)),
     }
-    // "A failed condition changes only R15 (next record). Either way the waiting condition is dropped"
-    let mut next = *now;
-    next.put(PC, next_address(now, &record))?;
+}
+
+/// A step that numbers 1 to 4 do not refuse.
+pub fn perform(machine: &mut Machine, record: &Record, memory: &mut Memory) -> Number {
+    let now = *machine;
+    match advance(&now, machine, record, memory) {
+        Ok(()) => DONE,
+        Err(number) => {
+            *machine = now;
+            number
+        }
+    }
+}
+
+/// Operands are those of the machine `now`; `next` begins as the same. "A failed condition changes
+/// only R15 (next record). Either way the waiting condition is dropped".
+fn advance(
+    now: &Machine,
+    next: &mut Machine,
+    record: &Record,
+    memory: &mut Memory,
+) -> Result<(), Number> {
+    next.put(PC, next_address(now, record))?;
     next.waiting = now.waiting.rest();
-    if now.passes(ruling(now, &record)) {
-        act(now, &mut next, &record, &mut memory)?;
+    if now.passes(ruling(now, record)) {
+        act(now, next, record, memory)?;
     }
-    Ok(next)
+    Ok(())
 }
 
 fn next_address(now: &Machine, record: &Record) -> u32 {
@@ -61,10 +83,10 @@ fn act(
     record: &Record,
     memory: &mut Memory,
 ) -> Result<(), Number> {
-    match record.action {
-        Action::Compute(action) => compute(now, next, &action, record.s),
-        Action::Access(action) => access(now, next, &action, memory),
-        Action::Control(action) => control(now, next, record, &action),
+    match &record.action {
+        Action::Compute(action) => compute(now, next, action, record.s),
+        Action::Access(action) => access(now, next, action, memory),
+        Action::Control(action) => control(now, next, record, action),
     }
 }
 

@@ -1,6 +1,9 @@
 -- Bit fields by their lowest bit and their width, and numbers of 8 or 16 bits made words.
-use Prim.Native.Nat.{ℕ, _+_, _*_, _/_, _%_, _^_}
-use Rattle.word.specs.Word.{signed-in, wrapped}
+use Prim.Native.Nat.{ℕ, _+_, _-_, _/_, _%_, _^_}
+use mathlib.Core.Bool.{_&&_}
+use lib.Dec.{leb, ltb}
+use Rattle.word.specs.Choice.{if_then_else_}
+use Rattle.word.specs.Word.{bit, from-bits, signed-in, wrapped}
 use Rattle.shift.specs.Shift.{rotated}
 
 unfoldable pub UBFX : ℕ → ℕ → ℕ → ℕ
@@ -9,9 +12,9 @@ UBFX x lsb width = x / 2 ^ lsb % 2 ^ width
 unfoldable pub SBFX : ℕ → ℕ → ℕ → ℕ
 SBFX x lsb width = wrapped 32 (signed-in width (UBFX x lsb width))
 
--- d with the bits from lsb on replaced by the width low bits of x; the bits above and below stay
+-- bit i is that of x within the field, where lsb is bit 0 of x, and stays that of d outside
 unfoldable pub BFI : ℕ → ℕ → ℕ → ℕ → ℕ
-BFI d x lsb width = (d / 2 ^ (lsb + width) * 2 ^ (lsb + width) + x % 2 ^ width * 2 ^ lsb + d % 2 ^ lsb) % 2 ^ 32
+BFI d x lsb width = from-bits 32 (λ i. if leb lsb i && ltb i (lsb + width) then bit (i - lsb) x else bit i d)
 
 abbrev pub BFC : ℕ → ℕ → ℕ → ℕ
 BFC d lsb width = BFI d 0 lsb width

@@ -69,6 +69,11 @@ pub from-zero : {w : Width} (z : ℤ) → SFits w z → ltZ z (pos 0) ≡ false 
 from-zero (pos n) f e = (n, refl, f .sfits)
 from-zero (negsuc n) f e = let z : _≡_ {A = Bool} true false = e in absurd (subst (λ (b : Bool). T b) z tt)
 
+-- a difference below zero
+pub minus-more : (a b : ℕ) → a < b → pos a -ℤ pos b ≡ negsuc (b - suc a)
+minus-more a zero h = absurd (omega arith)
+minus-more a (suc b) h = rw (lt-ltb a (suc b) h)
+
 -- -1 - z turns every bit of z over
 pub minus-one-minus : (n : ℕ) → negsuc 0 -ℤ negsuc n ≡ pos n
 minus-one-minus n = rw (le-ltb (suc n) 1 (omega arith)) (ap pos (omega arith))

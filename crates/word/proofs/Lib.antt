@@ -1,3 +1,4 @@
 pub mod Cases
 pub mod Numbers
 pub mod Integers
+pub mod Bits

@@ -1,13 +1,13 @@
 -- Numbers shifted by powers of two.
-use Prim.Native.Nat.{ℕ, _+_, _-_, _*_, _/_, _%_, _^_, _≤_, _<_}
+use Prim.Native.Nat.{ℕ, suc, _+_, _-_, _*_, _/_, _%_, _^_, _≤_, _<_, min}
 use mathlib.Core.Path.{_≡_, sym, ap, _∙_}
 use mathlib.Core.Bool.{Bool, true, false}
 use native.Mathlib.Omega.{arith}
-use native.Mathlib.Nat.{le-of-lt, mul-mod-left, mul-div-cancel, mul-assoc, div-eq-of-lt, lt-of-lt-of-le, sub-add-cancel, add-mul-mod-self-right}
-use lib.Dec.{eqb}
-use lib.Pow.{pow-add, pow-pos, pow-mono, mod-pow-add, shl-shr}
-use borrow.Author.Tests.{eq-eqb, ne-eqb, le-leb, lt-leb}
-use Rattle.word.specs.Word.{negative, one-if}
+use native.Mathlib.Nat.{le-of-lt, mul-mod-left, mul-div-cancel, mul-assoc, div-eq-of-lt, lt-of-lt-of-le, sub-add-cancel, add-mul-mod-self-right, mod-eq-of-lt, pow-suc}
+use lib.Dec.{eqb, leb}
+use lib.Pow.{pow-add, pow-pos, pow-mono, mod-pow-add, shl-shr, ones-lt, ones-split, low, high}
+use borrow.Author.Tests.{le-leb, lt-leb}
+use Rattle.word.specs.Word.{bit, negative, one-if}
 use Rattle.word.proofs.Cases.{cases, le-or-gt}
 
 -- a shift by n is one by n - k and one by k
@@ -38,13 +38,42 @@ same-rest m a b i j e = sym (add-mul-mod-self-right a i m) ∙ ap (λ (n : ℕ).
 pub shift-mod : (x j k : ℕ) → x * 2 ^ k % 2 ^ (j + k) ≡ x % 2 ^ j * 2 ^ k
 shift-mod x j k = rw (mod-pow-add (x * 2 ^ k) j k, shl-shr x k, mul-mod-left x (2 ^ k)) (omega arith)
 
--- bit 31 of a word by its shift
-pub top-bit : (x : ℕ) → x < 2 ^ 32 → eqb (x / 2 ^ 31) 1 ≡ negative x
-top-bit x h =
-    cases (le-or-gt (2 ^ 31) x)
-    (λ l. eq-eqb (x / 2 ^ 31) 1 (omega arith) ∙ sym (le-leb (2 ^ 31) x l))
-    (λ l. ne-eqb (x / 2 ^ 31) 1 (omega arith) ∙ sym (lt-leb (2 ^ 31) x l))
-
 pub one-if-le : (b : Bool) → one-if b ≤ 1
 one-if-le true = omega arith
 one-if-le false = omega arith
+
+-- of w low bits set, k at the most are left
+pub ones-mod : (w k : ℕ) → (2 ^ w - 1) % 2 ^ k ≡ 2 ^ min w k - 1
+ones-mod w k =
+    cases (le-or-gt w k)
+    (λ l.
+    let e : min w k ≡ w = omega arith in
+    rw e (mod-eq-of-lt (lt-of-lt-of-le (ones-lt w) (pow-mono l))))
+    (λ l.
+    let e : min w k ≡ k = omega arith in
+    let f : (w - k) + k ≡ w = omega arith in
+    rw (e, rw f at (ones-split (w - k) k)) (low (2 ^ (w - k) - 1) k (ones-lt k)))
+
+-- a number of k bits has no more to lose
+pub mod-min : (x w k : ℕ) → x < 2 ^ k → x % 2 ^ min w k ≡ x % 2 ^ w
+mod-min x w k h =
+    cases (le-or-gt w k)
+    (λ l. let e : min w k ≡ w = omega arith in rw e)
+    (λ l.
+    let e : min w k ≡ k = omega arith in
+    rw (e, mod-eq-of-lt h, mod-eq-of-lt (lt-of-lt-of-le h (pow-mono (le-of-lt l)))))
+
+-- the highest of n + 1 bits by comparison
+pub highest : (n x : ℕ) → x < 2 ^ suc n → bit n x ≡ leb (2 ^ n) x
+highest n x h =
+    let p = pow-suc 2 n in
+    cases (le-or-gt (2 ^ n) x)
+    (λ l.
+    let e : 1 * 2 ^ n + (x - 2 ^ n) ≡ x = omega arith in
+    let q : x / 2 ^ n ≡ 1 = rw e at (high 1 n {lo = x - 2 ^ n} (omega arith)) in
+    rw (q, le-leb (2 ^ n) x l))
+    (λ l. rw (div-eq-of-lt l, lt-leb (2 ^ n) x l))
+
+-- bit 31 of a word by its shift
+pub top-bit : (x : ℕ) → x < 2 ^ 32 → eqb (x / 2 ^ 31) 1 ≡ negative x
+top-bit x h = rw (← mod-eq-of-lt {n = x / 2 ^ 31} {m = 2} (omega arith)) (highest 31 x h)

@@ -1,0 +1,343 @@
+//! "What a step does", sentence by sentence.
+
+mod common;
+use common::*;
+use second::machine::Machine;
+use second::step::step;
+
+/// Kind 01 and kind 03 with S, R0 from R1 and R2.
+fn operate(op: u8, shift: u8, n: u8) -> [u8; 8] {
+    [0x01, op, 1, 0, 1, 2, shift, n]
+}
+
+fn with_flags(registers: &[(usize, u32)], nzcv: [bool; 4]) -> Machine {
+    let mut machine = machine(registers);
+    [machine.n, machine.z, machine.c, machine.v] = nzcv;
+    machine
+}
+
+#[test]
+fn r15_as_operand_and_as_base() {
+    let now = machine(&[(15, 0x1002), (1, 6)]);
+    assert_eq!(stepped(now, &[0x01, 10, 0, 0, 0, 15, 0, 0]).registers[0], 0x1006);
+    assert_eq!(stepped(now, &[0x01, 0, 0, 15, 15, 1, 0, 0]).registers[15], 0x100C);
+    assert_eq!(stepped(now, &[0x04, 0, 2, 0, 15, 8, 0]).registers[0], 0x100C);
+    assert_eq!(stepped(now, &[0x04, 1, 2, 0, 15, 8, 0]).registers[0], 0x0FFC);
+    let mut memory: Vec<u8> = (0..64).collect();
+    for (record, register, value) in [
+        (single(0, 0, 15, 0, 4), 0, 0x0B0A_0908),
+        (single(0, 0, 15, 0, -4), 0, 0x0302_0100),
+        (double(0, 2, 3, 15, 0, 4), 3, 0x0F0E_0D0C),
+    ] {
+        let mut machine = machine(&[(15, 0x1002)]);
+        assert_eq!(step(&mut machine, &record, &mut memory, 0x1000), 0);
+        assert_eq!(machine.registers[register], value);
+    }
+}
+
+#[test]
+fn sums_are_taken_modulo_2_to_the_32() {
+    let top = machine(&[(15, 0xFFFF_FFFE)]);
+    assert_eq!(stepped(top, &NOP).registers[15], 0);
+    assert_eq!(stepped(top, &[0x15, 2]).registers[15], 2);
+    assert_eq!(stepped(top, &[0x01, 10, 0, 0, 0, 15, 0, 0]).registers[0], 2);
+    assert_eq!(stepped(top, &b(14, 0)).registers[15], 2);
+    assert_eq!(stepped(machine(&[(15, 0)]), &b(14, -6)).registers[15], 0xFFFF_FFFE);
+    assert_eq!(stepped(top, &bl(-8)).registers[14], 3);
+    let mut memory = [7; 64];
+    let mut wrapped = machine(&[(0, 0xFFFF_FFFF), (1, 2)]);
+    assert_eq!(step(&mut wrapped, &[0x0E, 1, 0, 2, 0, 1, 1], &mut memory, 0), 0);
+    assert_eq!(wrapped.registers[2], 7);
+}
+
+#[test]
+fn branches_and_links() {
+    let now = machine(&[(0, 1), (3, 0x4567), (14, 0x2001)]);
+    let linked = stepped(now, &bl(0x20));
+    assert_eq!((linked.registers[15], linked.registers[14]), (0x1024, 0x1005));
+    // "BLX reads Rm first."
+    let linked = stepped(now, &[0x12, 1, 0, 14]);
+    assert_eq!((linked.registers[15], linked.registers[14]), (0x2000, 0x1003));
+    let gone = stepped(now, &[0x12, 0, 0, 3]);
+    assert_eq!((gone.registers[15], gone.registers[14]), (0x4566, 0x2001));
+    for (op, rn, wanted) in [(0, 1, 0x100E), (0, 0, 0x1002), (1, 1, 0x1002), (1, 0, 0x100E)] {
+        assert_eq!(stepped(now, &[0x13, op, 0, rn, 10]).registers[15], wanted);
+    }
+    assert_eq!(stepped(now, &[0x01, 10, 0, 15, 0, 3, 0, 0]).registers[15], 0x4566);
+}
+
+#[test]
+fn arithmetic_sets_all_four() {
+    let now = |c| with_flags(&[(0, 9), (1, 5), (2, 7)], [false, true, c, true]);
+    for (op, c, value, flags) in [
+        (0, false, 12, "00000"),
+        (1, true, 13, "00000"),
+        (2, true, 0xFFFF_FFFE, "10000"),
+        (3, false, 0xFFFF_FFFD, "10000"),
+        (3, true, 0xFFFF_FFFE, "10000"),
+        (4, false, 2, "00100"),
+    ] {
+        let after = stepped(now(c), &operate(op, 0, 0));
+        assert_eq!((after.registers[0], nzcvq(&after).as_str()), (value, flags), "op {op}");
+    }
+    for (op, flags) in [(12, "10000"), (13, "00000")] {
+        let after = stepped(now(true), &operate(op, 0, 0));
+        assert_eq!((after.registers[0], nzcvq(&after).as_str()), (9, flags), "op {op}");
+    }
+    let equal = stepped(now(false), &[0x02, 12, 1, 0, 1, 5, 0, 0, 0]);
+    assert_eq!(nzcvq(&equal), "01100");
+}
+
+#[test]
+fn logic_sets_n_z_and_c_from_the_shifter_and_never_v() {
+    let now = with_flags(&[(0, 9), (1, 0xF0F0_F0F0), (2, 0x8000_000C)], [false, true, false, true]);
+    // R2 LSR 3 is 0x10000001, and 1 is carried; R2 LSL 1 is 0x18, and 1 is carried
+    for (op, shift, n, value, flags) in [
+        (5, 0, 0, 0x8000_0000, "10010"),
+        (5, 1, 3, 0x1000_0000, "00110"),
+        (6, 0, 1, 0xF0F0_F0F8, "10110"),
+        (7, 0, 0, 0x70F0_F0FC, "00010"),
+        (8, 0, 0, 0x70F0_F0F0, "00010"),
+        (9, 0, 0, 0xFFFF_FFF3, "10010"),
+        (14, 2, 32, 9, "10110"),
+        (15, 3, 4, 9, "00110"),
+    ] {
+        let after = stepped(now, &operate(op, shift, n));
+        assert_eq!((after.registers[0], nzcvq(&after).as_str()), (value, flags), "op {op}");
+    }
+    let moved = stepped(now, &[0x01, 10, 1, 0, 0, 2, 0, 0]);
+    assert_eq!((moved.registers[0], nzcvq(&moved).as_str()), (0x8000_000C, "10010"));
+    let moved = stepped(now, &[0x01, 11, 1, 0, 0, 2, 0, 0]);
+    assert_eq!((moved.registers[0], nzcvq(&moved).as_str()), (0x7FFF_FFF3, "00010"));
+    let without_s = stepped(now, &[0x01, 11, 0, 0, 0, 2, 0, 1]);
+    assert_eq!((without_s.registers[0], nzcvq(&without_s).as_str()), (0xFFFF_FFE7, "01010"));
+}
+
+#[test]
+fn the_carry_of_constants() {
+    for (constant, kept, given) in [
+        (0xFFu32, true, false),
+        (0, true, false),
+        (0x100, false, false),
+        (0x8000_0000, false, true),
+        (0xFF00_0000, false, true),
+        (0x7F80_0000, false, false),
+        (0x00AB_00AB, true, false),
+        (0xAB00_AB00, true, false),
+        (0xABAB_ABAB, true, false),
+    ] {
+        for carry in [false, true] {
+            let now = with_flags(&[], [false, false, carry, false]);
+            let mut record = mov(0, constant);
+            record[2] = 1;
+            let after = stepped(now, &record);
+            assert_eq!(after.c, if kept { carry } else { given }, "{constant:X}");
+            assert_eq!(after.registers[0], constant);
+        }
+    }
+}
+
+#[test]
+fn kind_03_takes_the_whole_number_in_rs() {
+    let x = 0x8000_0001;
+    for (shift, amount, value, carry) in [
+        (0, 1, 2, Some(true)),
+        (0, 32, 0, Some(true)),
+        (0, 33, 0, Some(false)),
+        (0, 256, 0, Some(false)),
+        (1, 31, 1, Some(false)),
+        (1, 32, 0, Some(true)),
+        (1, 33, 0, Some(false)),
+        (2, 31, 0xFFFF_FFFF, Some(false)),
+        (2, 32, 0xFFFF_FFFF, Some(true)),
+        (2, 0xFFFF_FFFF, 0xFFFF_FFFF, Some(true)),
+        (3, 1, 0xC000_0000, Some(true)),
+        (3, 32, x, Some(true)),
+        (3, 33, 0xC000_0000, Some(true)),
+        (3, 256, x, Some(true)),
+        (3, 63, 3, Some(false)),
+        (0, 0, x, None),
+        (1, 0, x, None),
+        (2, 0, x, None),
+        (3, 0, x, None),
+    ] {
+        for c in [false, true] {
+            let now = with_flags(&[(1, x), (2, amount)], [false, true, c, true]);
+            let after = stepped(now, &[0x03, shift, 1, 0, 1, 2]);
+            assert_eq!(after.registers[0], value, "shift {shift} by {amount}");
+            assert_eq!(after.c, carry.unwrap_or(c), "shift {shift} by {amount}");
+            assert_eq!((after.n, after.z, after.v), (value >> 31 == 1, value == 0, true));
+            let kept = stepped(now, &[0x03, shift, 0, 0, 1, 2]);
+            assert_eq!((kept.registers[0], nzcvq(&kept)), (value, nzcvq(&now)));
+        }
+    }
+}
+
+#[test]
+fn products() {
+    let now = with_flags(&[(0, 10), (1, 0xFFFF_FFFF), (2, 3), (3, 100)], [false, true, true, true]);
+    let muls = stepped(now, &[0x07, 0, 1, 2, 1, 2, 0]);
+    assert_eq!((muls.registers[2], nzcvq(&muls).as_str()), (0xFFFF_FFFD, "10110"));
+    assert_eq!(stepped(now, &[0x07, 1, 2, 0, 1, 2, 3]).registers[0], 97);
+    assert_eq!(stepped(now, &[0x07, 2, 2, 0, 1, 2, 3]).registers[0], 103);
+    for (op, low, high) in
+        [(0, 0xFFFF_FFFD, 2), (1, 7, 103), (2, 0xFFFF_FFFD, 0xFFFF_FFFF), (3, 7, 100)]
+    {
+        let after = stepped(now, &[0x08, op, 2, 0, 3, 1, 2]);
+        assert_eq!((after.registers[0], after.registers[3]), (low, high), "op {op}");
+    }
+}
+
+#[test]
+fn values_of_kinds_04_to_0c() {
+    let now = machine(&[(0, 0x1122_3344), (1, 0x8091_A2B3), (2, 5), (13, 0x100)]);
+    for (record, value) in [
+        (&[0x04, 0, 2, 0, 2, 0xFF, 0x0F][..], 5 + 4095),
+        (&[0x04, 1, 2, 0, 2, 6, 0], 0xFFFF_FFFF),
+        (&[0x04, 1, 2, 0, 13, 6, 0], 0xFA),
+        (&[0x05, 0, 2, 0, 0xCD, 0xAB], 0xABCD),
+        (&[0x05, 1, 2, 0, 0xCD, 0xAB], 0xABCD_3344),
+        (&[0x06, 0, 2, 0, 2], 29),
+        (&[0x06, 0, 2, 0, 3], 32),
+        (&[0x06, 1, 0, 0, 1], 0xB3A2_9180),
+        (&[0x06, 2, 0, 0, 1], 0x9180_B3A2),
+        (&[0x06, 3, 0, 0, 1], 0xFFFF_B3A2),
+        (&[0x06, 4, 2, 0, 1], 0xCD45_8901),
+        (&[0x09, 0, 2, 0, 1, 2], 0xE683_86F1),
+        (&[0x09, 1, 2, 0, 1, 2], 0x19B6_BA23),
+        (&[0x0B, 0, 2, 0, 0, 4, 24], 0x1000_0004),
+        (&[0x0B, 1, 2, 0, 1, 28, 4], 0x3122_3344),
+        (&[0x0B, 2, 2, 0, 1, 4, 8], 0x2B),
+        (&[0x0B, 2, 2, 0, 1, 8, 8], 0xFFFF_FFA2),
+        (&[0x0B, 3, 2, 0, 1, 8, 8], 0xA2),
+        (&[0x0B, 3, 2, 0, 1, 0, 32], 0x8091_A2B3),
+        (&[0x0C, 0, 0, 0, 1, 0], 0xFFFF_FFB3),
+        (&[0x0C, 0, 0, 0, 0, 8], 0x33),
+        (&[0x0C, 1, 0, 0, 1, 24], 0xFFFF_B380),
+        (&[0x0C, 2, 0, 0, 1, 16], 0x91),
+        (&[0x0C, 3, 0, 0, 1, 8], 0x91A2),
+    ] {
+        let after = stepped(now, record);
+        assert_eq!(after.registers[0], value, "{record:02X?}");
+        assert_eq!(nzcvq(&after), "00000");
+    }
+}
+
+#[test]
+fn saturation_only_ever_sets_q() {
+    for q in [false, true] {
+        let mut now = machine(&[(1, 0xFFFF_FF00), (2, 0x0800_0001)]);
+        now.q = q;
+        for (op, bits, rm, shift, s, value, saturated) in [
+            (0, 9, 1, 0, 0, 0xFFFF_FF00, false),
+            (0, 8, 1, 0, 0, 0xFFFF_FF80, true),
+            (0, 32, 1, 0, 31, 0, false),
+            (0, 5, 1, 2, 4, 0xFFFF_FFF0, false),
+            (0, 4, 1, 2, 4, 0xFFFF_FFF8, true),
+            (1, 31, 1, 0, 0, 0, true),
+            (1, 0, 1, 0, 0, 0, true),
+            (1, 8, 2, 0, 0, 0xFF, true),
+            // LSL keeps 32 bits: 0x08000001 LSL 5 is 0x20
+            (1, 6, 2, 0, 5, 0x20, false),
+            (1, 5, 2, 0, 5, 0x1F, true),
+            (1, 1, 2, 2, 27, 1, false),
+        ] {
+            let record = [0x0A, op, 2, 0, bits, rm, shift, s];
+            let after = stepped(now, &record);
+            assert_eq!(after.registers[0], value, "{record:02X?}");
+            assert_eq!(after.q, q || saturated, "{record:02X?}");
+        }
+    }
+}
+
+#[test]
+fn single_accesses() {
+    let memory: Vec<u8> = (0x81..0x81 + 64).collect();
+    let now = machine(&[(0, 0x1122_3344), (1, BASE + 8), (2, 3)]);
+    for (op, value) in
+        [(0, 0x8F8E_8D8C), (1, 0x8C), (2, 0x8D8C), (3, 0xFFFF_FF8C), (4, 0xFFFF_8D8C)]
+    {
+        for (record, base) in [
+            (single(op, 0, 1, 0, 3), BASE + 8),
+            (single(op, 0, 1, 1, 3), BASE + 11),
+            (vec![0x0E, op, 0, 0, 1, 2, 0], BASE + 8),
+        ] {
+            let (mut after, mut bytes) = (now, memory.clone());
+            assert_eq!(step(&mut after, &record, &mut bytes, BASE), 0);
+            assert_eq!((after.registers[0], after.registers[1]), (value, base));
+            assert_eq!(bytes, memory);
+        }
+    }
+    for (op, stored) in [(5, &[0x44, 0x33, 0x22, 0x11][..]), (6, &[0x44]), (7, &[0x44, 0x33])] {
+        for (record, at, base) in [
+            (single(op, 0, 1, 0, -7), 1, BASE + 8),
+            (single(op, 0, 1, 1, -7), 1, BASE + 1),
+            (single(op, 0, 1, 2, -7), 8, BASE + 1),
+            (vec![0x0E, op, 0, 0, 1, 2, 3], 32, BASE + 8),
+        ] {
+            let (mut after, mut bytes) = (now, memory.clone());
+            assert_eq!(step(&mut after, &record, &mut bytes, BASE), 0);
+            let mut wanted = memory.clone();
+            wanted[at..at + stored.len()].copy_from_slice(stored);
+            assert_eq!(bytes, wanted);
+            assert_eq!((after.registers[0], after.registers[1]), (0x1122_3344, base));
+        }
+    }
+}
+
+#[test]
+fn double_accesses() {
+    let now = machine(&[(0, BASE + 8), (2, 0x0403_0201), (3, 0x0807_0605)]);
+    let mut memory = [0; 64];
+    let mut machine = now;
+    assert_eq!(step(&mut machine, &double(1, 2, 3, 0, 1, -4), &mut memory, BASE), 0);
+    assert_eq!(memory[4..12], [1, 2, 3, 4, 5, 6, 7, 8]);
+    assert_eq!(machine.registers[0], BASE + 4);
+    assert_eq!(step(&mut machine, &double(0, 5, 4, 0, 2, 1020), &mut memory, BASE), 0);
+    assert_eq!((machine.registers[5], machine.registers[4]), (0x0403_0201, 0x0807_0605));
+    assert_eq!(machine.registers[0], BASE + 1024);
+    // Rn may be Rt without write-back
+    let mut machine = now;
+    assert_eq!(step(&mut machine, &double(0, 0, 1, 0, 0, -4), &mut memory, BASE), 0);
+    assert_eq!((machine.registers[0], machine.registers[1]), (0x0403_0201, 0x0807_0605));
+}
+
+#[test]
+fn multiple_accesses() {
+    let registers = [(1, 0x11), (4, 0x44), (7, 0x77), (13, BASE + 32)];
+    for (op, first, base) in [(2, 32, BASE + 44), (3, 20, BASE + 20)] {
+        for write_back in 0..2 {
+            let (mut after, mut memory) = (machine(&registers), [0; 64]);
+            let record = multiple(op, 13, write_back, 0b1001_0010);
+            assert_eq!(step(&mut after, &record, &mut memory, BASE), 0);
+            let words = [0x11, 0, 0, 0, 0x44, 0, 0, 0, 0x77, 0, 0, 0];
+            assert_eq!(memory[first..first + 12], words);
+            assert_eq!(after.registers[13], if write_back == 1 { base } else { BASE + 32 });
+        }
+    }
+    let mut memory: Vec<u8> = (1..65).collect();
+    for (op, first, base) in [(0, 0x2423_2221, BASE + 40), (1, 0x1C1B_1A19, BASE + 24)] {
+        let mut after = machine(&registers);
+        assert_eq!(step(&mut after, &multiple(op, 13, 1, 0x8001), &mut memory, BASE), 0);
+        assert_eq!((after.registers[0], after.registers[13]), (first, base));
+        assert_eq!(after.registers[15], (first + 0x0404_0404) & !1);
+    }
+    // Rn in the list, without write-back
+    let mut after = machine(&[(1, BASE), (0, 9)]);
+    assert_eq!(step(&mut after, &multiple(0, 1, 0, 7), &mut memory, BASE), 0);
+    assert_eq!(after.registers[..3], [0x0403_0201, 0x0807_0605, 0x0C0B_0A09]);
+    let mut after = machine(&[(1, BASE), (0, 9)]);
+    assert_eq!(step(&mut after, &multiple(2, 1, 0, 3), &mut memory, BASE), 0);
+    assert_eq!(memory[..8], [9, 0, 0, 0, 0, 0, 0, 0x20]);
+}
+
+#[test]
+fn ldr_to_r15_may_write_its_base_back_too() {
+    let mut memory = [0; 64];
+    memory[..4].copy_from_slice(&0x3001u32.to_le_bytes());
+    let mut after = machine(&[(13, BASE)]);
+    assert_eq!(step(&mut after, &single(0, 15, 13, 2, 4), &mut memory, BASE), 0);
+    assert_eq!((after.registers[13], after.registers[15]), (BASE + 4, 0x3000));
+    let mut after = machine(&[(13, BASE)]);
+    assert_eq!(step(&mut after, &single(0, 15, 13, 2, 2), &mut memory, BASE), 7);
+}
