@@ -24,13 +24,13 @@ word-of a b c d = a * 2 ^ 24 + b * 2 ^ 16 + c * 2 ^ 8 + d
 unfoldable pub REV : ℕ → ℕ
 REV x = word-of (byte 0 x) (byte 1 x) (byte 2 x) (byte 3 x)
 
--- the bytes of each half change places
+-- the bytes of each half exchanged
 unfoldable pub REV16 : ℕ → ℕ
 REV16 x = word-of (byte 2 x) (byte 3 x) (byte 0 x) (byte 1 x)
 
--- the bytes of the low half change places, and its sign fills the high half
+-- the low half with its bytes exchanged, and its sign above it
 unfoldable pub REVSH : ℕ → ℕ
-REVSH x = SBFX (word-of 0 0 (byte 0 x) (byte 1 x)) 0 16
+REVSH x = SBFX (REV16 x) 0 16
 
 -- bit i of the result is bit 31 - i of x
 unfoldable pub RBIT : ℕ → ℕ

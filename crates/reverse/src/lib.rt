@@ -9,10 +9,11 @@ pub fn clz(x: u32) -> u32
     u32::leading_zeros(x)
 }
 
+// The bytes of each half exchanged, and then the halves.
 pub fn rev(x: u32) -> u32
     ensures { λ r. ⌜ r ≡ REV x ⌝ }
 {
-    (x << 24) | ((x & 0xff00) << 8) | ((x >> 8) & 0xff00) | (x >> 24)
+    shift::rotate_right(rev16(x), 16)
 }
 
 pub fn rev16(x: u32) -> u32
@@ -24,7 +25,7 @@ pub fn rev16(x: u32) -> u32
 pub fn revsh(x: u32) -> u32
     ensures { λ r. ⌜ r ≡ REVSH x ⌝ }
 {
-    field::sbfx(((x & 0xff) << 8) | ((x >> 8) & 0xff), 0, 16)
+    field::sbfx(rev16(x), 0, 16)
 }
 
 // Bit after bit: the lowest of what is left goes in below those before it.

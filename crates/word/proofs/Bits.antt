@@ -19,7 +19,7 @@ low-two zero h P p q = p
 low-two (suc zero) h P p q = q
 low-two (suc (suc d)) h P p q = absurd (omega arith)
 
-digit : (x i : ℕ) → x / 2 ^ i % 2 < 2
+pub digit : (x i : ℕ) → x / 2 ^ i % 2 < 2
 digit x i = mod-lt (x / 2 ^ i) (omega arith)
 
 min-both : (p q : ℕ) → p < 2 → q < 2 → eqb (min p q) 1 ≡ (eqb p 1 && eqb q 1)
@@ -40,7 +40,7 @@ differ-one p h = low-two p h (λ (p : ℕ). eqb (differ p 1) 1 ≡ not (eqb p 1)
 differ-lt : (p : ℕ) → p < 2 → differ p 1 < 2
 differ-lt p h = low-two p h (λ (p : ℕ). differ p 1 < 2) (omega arith) (omega arith)
 
-one-if-digit : (p : ℕ) → p < 2 → one-if (eqb p 1) ≡ p
+pub one-if-digit : (p : ℕ) → p < 2 → one-if (eqb p 1) ≡ p
 one-if-digit p h = low-two p h (λ (p : ℕ). one-if (eqb p 1) ≡ p) refl refl
 
 -- ---- the bits of each operation
@@ -110,3 +110,16 @@ from-bits-own (suc n) x =
 -- a number of n bits whose bits are `at`
 pub by-bits : (n x : ℕ) (at : ℕ → Bool) → x < 2 ^ n → ((i : ℕ) → i < n → bit i x ≡ at i) → x ≡ from-bits n at
 by-bits n x at h e = sym (mod-eq-of-lt h) ∙ sym (from-bits-own n x) ∙ from-bits-same n (λ i. bit i x) at e
+
+-- one bit more, at the bottom
+pub from-bits-low : (n : ℕ) (at : ℕ → Bool) → from-bits (suc n) at ≡ from-bits n (λ i. at (suc i)) * 2 + one-if (at 0)
+from-bits-low zero at = omega arith
+from-bits-low (suc n) at = rw (from-bits-low n at, pow-suc 2 n) (omega arith)
+
+one-if-times : (b : Bool) (p : ℕ) → one-if b * p ≤ p
+one-if-times true p = omega arith
+one-if-times false p = omega arith
+
+pub from-bits-lt : (n : ℕ) (at : ℕ → Bool) → from-bits n at < 2 ^ n
+from-bits-lt zero at = omega arith
+from-bits-lt (suc n) at = omega (arith, from-bits-lt n at, pow-suc 2 n, one-if-times (at n) (2 ^ n))
