@@ -6,10 +6,7 @@ ghost use Rattle.quotient.specs.Quotient.{UDIV, SDIV};
 pub fn udiv(x: u32, y: u32) -> u32
     ensures { λ r. ⌜ r ≡ UDIV x y ⌝ }
 {
-    if y == 0 {
-        return 0;
-    }
-    x / y
+    if y == 0 { 0 } else { x / y }
 }
 
 pub fn sdiv(x: u32, y: u32) -> u32

@@ -12,7 +12,7 @@ use lib.Pow.{split}
 use Rattle.word.specs.Word.{bit, one-if, from-bits}
 use Rattle.word.proofs.Cases.{cases, yes-or-no}
 use Rattle.word.proofs.Numbers.{highest}
-use Rattle.word.proofs.Bits.{from-bits-low, from-bits-same, digit, one-if-digit}
+use Rattle.word.proofs.Bits.{from-bits-low, from-bits-same, one-if-bit}
 use Rattle.reverse.specs.Reverse.{clear-from}
 
 -- the m bits that x has below its leading zeros
@@ -51,7 +51,7 @@ pub reversed-more : (x r n : ℕ) → r ≡ from-bits n (λ i. bit (n - 1 - i) x
 reversed-more x r n e =
     let same = from-bits-same n (λ i. bit (n - 1 - i) x) (λ i. bit (n - suc i) x) (λ i l. let f : n - 1 - i ≡ n - suc i = omega arith in rw f) in
     let whole = from-bits-same (suc n) (λ i. bit (n - i) x) (λ i. bit (n + 1 - 1 - i) x) (λ i l. let f : n - i ≡ n + 1 - 1 - i = omega arith in rw f) in
-    let here : one-if (bit (n - 0) x) ≡ x / 2 ^ n % 2 = rw (sub-zero n) (one-if-digit (x / 2 ^ n % 2) (digit x n)) in
+    let here : one-if (bit (n - 0) x) ≡ x / 2 ^ n % 2 = rw (sub-zero n) (one-if-bit n x) in
     let low = from-bits-low n (λ i. bit (n - i) x) in
     let below : r * 2 + x / 2 ^ n % 2 ≡ from-bits (suc n) (λ i. bit (n - i) x) = rw (low, here, ← same, ← e) in
     below ∙ whole ∙ ap (λ (m : ℕ). from-bits m (λ i. bit (n + 1 - 1 - i) x)) (sym (add-one n))

@@ -26,21 +26,21 @@ pub fn usat(bits: u32, number: i32) -> Saturated
 pub fn saturate(least: i32, most: i32, number: i32) -> Saturated
     ensures { λ r. ⌜ r ≡ saturated-to least most number ⌝ }
 {
-    if number < least {
-        return Saturated {
-            value: least,
-            saturated: true,
-        };
-    }
-    if most < number {
-        return Saturated {
-            value: most,
-            saturated: true,
-        };
-    }
     Saturated {
-        value: number,
-        saturated: false,
+        value: nearest(least, most, number),
+        saturated: (number < least) | (most < number),
+    }
+}
+
+fn nearest(least: i32, most: i32, number: i32) -> i32
+    ensures { λ r. ⌜ r ≡ saturated-to least most number .value ⌝ }
+{
+    if number < least {
+        least
+    } else if most < number {
+        most
+    } else {
+        number
     }
 }
 

@@ -6,9 +6,10 @@ use native.Mathlib.Omega.{arith}
 use native.Mathlib.Numerals.{one-add}
 use native.Mathlib.Nat.{mod-lt, mod-eq-of-lt, pow-suc, div-eq-of-lt, lt-of-lt-of-le, mul-div-cancel}
 use borrow.Author.Tests.{eqb-true, le-leb, lt-leb, lt-ltb, le-ltb}
-use lib.Bits.{bitAnd, bitOr, bitXor, and-shr, or-shr, xor-shr, and-step, or-step, xor-step, xor-add-and, and-mask, differ}
+use lib.Bits.{bitAnd, bitOr, bitXor, and-shr, or-shr, xor-shr, and-step, or-step, xor-step, xor-add-and, and-mask, and-high, differ}
+use lib.Arith.{lt-one}
 use lib.Dec.{leb, ltb, eqb}
-use lib.Pow.{pow-pos, pow-mono, field, mod-mod-pow, shr-shr, ones-split, ones-lt, high, mod-pow-add}
+use lib.Pow.{pow-pos, pow-mono, field, mod-mod-pow, shr-shr, ones-split, ones-lt, high, high-ones, mod-pow-add}
 use Rattle.word.specs.Word.{bit, one-if, from-bits}
 use Rattle.word.proofs.Cases.{cases, le-or-gt}
 use Rattle.word.proofs.Numbers.{bit-clear}
@@ -19,7 +20,7 @@ low-two zero h P p q = p
 low-two (suc zero) h P p q = q
 low-two (suc (suc d)) h P p q = absurd (omega arith)
 
-pub digit : (x i : ℕ) → x / 2 ^ i % 2 < 2
+digit : (x i : ℕ) → x / 2 ^ i % 2 < 2
 digit x i = mod-lt (x / 2 ^ i) (omega arith)
 
 min-both : (p q : ℕ) → p < 2 → q < 2 → eqb (min p q) 1 ≡ (eqb p 1 && eqb q 1)
@@ -40,8 +41,9 @@ differ-one p h = low-two p h (λ (p : ℕ). eqb (differ p 1) 1 ≡ not (eqb p 1)
 differ-lt : (p : ℕ) → p < 2 → differ p 1 < 2
 differ-lt p h = low-two p h (λ (p : ℕ). differ p 1 < 2) (omega arith) (omega arith)
 
-pub one-if-digit : (p : ℕ) → p < 2 → one-if (eqb p 1) ≡ p
-one-if-digit p h = low-two p h (λ (p : ℕ). one-if (eqb p 1) ≡ p) refl refl
+-- a bit as a number
+pub one-if-bit : (i x : ℕ) → one-if (bit i x) ≡ x / 2 ^ i % 2
+one-if-bit i x = low-two (x / 2 ^ i % 2) (digit x i) (λ (p : ℕ). one-if (eqb p 1) ≡ p) refl refl
 
 -- ---- the bits of each operation
 pub bit-and : (a b i : ℕ) → bit i (bitAnd a b) ≡ (bit i a && bit i b)
@@ -105,7 +107,7 @@ from-bits-same (suc n) f g h = rw (from-bits-same n f g (λ i l. h i (omega arit
 pub from-bits-own : (n x : ℕ) → from-bits n (λ i. bit i x) ≡ x % 2 ^ n
 from-bits-own zero x = omega arith
 from-bits-own (suc n) x =
-    rw (from-bits-own n x, one-if-digit (x / 2 ^ n % 2) (digit x n), ← one-add n, mod-pow-add x 1 n) (omega arith)
+    rw (from-bits-own n x, one-if-bit n x, ← one-add n, mod-pow-add x 1 n) (omega arith)
 
 -- a number of n bits whose bits are `at`
 pub by-bits : (n x : ℕ) (at : ℕ → Bool) → x < 2 ^ n → ((i : ℕ) → i < n → bit i x ≡ at i) → x ≡ from-bits n at
@@ -123,3 +125,27 @@ one-if-times false p = omega arith
 pub from-bits-lt : (n : ℕ) (at : ℕ → Bool) → from-bits n at < 2 ^ n
 from-bits-lt zero at = omega arith
 from-bits-lt (suc n) at = omega (arith, from-bits-lt n at, pow-suc 2 n, one-if-times (at n) (2 ^ n))
+
+-- ---- masks
+-- the mask of one bit
+pub and-bit : (x i : ℕ) → bitAnd x (2 ^ i) ≡ x / 2 ^ i % 2 * 2 ^ i
+and-bit x i =
+    let e : 2 ^ (1 + i) - 2 ^ i ≡ 2 ^ i = omega (arith, high-ones 1 i) in
+    rw e at (and-high x 1 i)
+
+both-lowest : (a b : ℕ) → a < 2 → b < 2 → min a (1 - b) + min a b ≡ a
+both-lowest a b h l = omega arith
+
+both-halves : (u v w z d : ℕ) → u + v ≡ d / 2 → w + z ≡ d % 2 → u * 2 + w + (v * 2 + z) ≡ d
+both-halves u v w z d e f = omega arith
+
+-- what a mask keeps and what its complement keeps are the whole
+pub and-complement : (k x m : ℕ) → x < 2 ^ k → m < 2 ^ k → bitAnd x (2 ^ k - 1 - m) + bitAnd x m ≡ x
+and-complement zero x m h l = rw (lt-one h)
+and-complement (suc k) x m h l =
+    let twice = pow-suc 2 k in
+    let e : (2 ^ suc k - 1 - m) / 2 ≡ 2 ^ k - 1 - m / 2 = omega arith in
+    let f : (2 ^ suc k - 1 - m) % 2 ≡ 1 - m % 2 = omega arith in
+    rw (and-step x (2 ^ suc k - 1 - m), and-step x m, e, f)
+    (both-halves _ _ _ _ x (and-complement k (x / 2) (m / 2) (omega arith) (omega arith))
+    (both-lowest (x % 2) (m % 2) (omega arith) (omega arith)))

@@ -49,12 +49,14 @@ wrapped-bits {w} (negsuc n) f =
     let e : n % 2 ^ bits w ≡ n = mod-eq-of-lt (omega (arith, f .sfits, half-less w)) in
     rw e (omega (arith, f .sfits, half-less w))
 
--- a word's signed number has the word's bits
+-- the bits of a word's signed number are the word
+pub bits-of-signed : (x : ℕ) → x < 2 ^ 32 → ofZ w32 (signed x) ≡ x
+bits-of-signed x h = ap (ofZ w32) (sym (signed-bits x h)) ∙ ofZ-toZ {w = w32} {n = x} (record { fits = h })
+
 pub wrapped-signed : (x : ℕ) → x < 2 ^ 32 → wrapped 32 (signed x) ≡ x
 wrapped-signed x h =
-    let e = signed-bits x h in
-    let f : SFits w32 (signed x) = rw e at (sfits-toZ {w = w32} {n = x} (record { fits = h })) in
-    sym (wrapped-bits (signed x) f) ∙ rw (← e) (ofZ-toZ {w = w32} {n = x} (record { fits = h }))
+    let f = rw (signed-bits x h) at (sfits-toZ {w = w32} {n = x} (record { fits = h })) in
+    sym (wrapped-bits (signed x) f) ∙ bits-of-signed x h
 
 -- a signed number whose bits are known
 pub of-bits : {w : Width} (z : ℤ) (n : ℕ) → SFits w z → ofZ w z ≡ n → z ≡ toZ w n

@@ -1,22 +1,19 @@
+use mathlib.Core.Path.{_≡_, sym, ap, _∙_}
+use mir.Facts.{toZ-ofZ}
 use borrow.Author.Needs.{needs}
+use Rattle.word.specs.Word.{wrapped}
+use Rattle.word.proofs.Integers.{wrapped-add}
+use Rattle.address.specs.Address.{moved}
 use Rattle.address.proofs.offset_by.Statement.{statement}
 use Rattle.address.proofs.offset_by.Tie as tie
-use Rattle.address.proofs.offset_by.Reads as reads
-use Rattle.address.proofs.offset_by.Lts as lts
-use Rattle.std.proofs.num.wrapping_add_u32.Reads as wrapping-add-u32-reads
-use Rattle.word.proofs.unsigned_of.Reads as unsigned-of-reads
 
--- src/lib.rt:27:35
-unsigned-of-requires : tie.Need-unsigned-of-requires
-unsigned-of-requires c κs = search needs
-
--- src/lib.rt:27:5
-wrapping-add-u32-requires : tie.Need-wrapping-add-u32-requires
-wrapping-add-u32-requires c κs = search needs
-
--- src/lib.rt:24:1
 returns : tie.Need-returns
-returns c = ?
+unfolding moved
+returns c =
+    let s = c .before .before in
+    let bits : c .before .unsigned-of .result ≡ wrapped 32 (s .args .offset) =
+    c .before .unsigned-of .ensures ∙ ap (wrapped 32) (toZ-ofZ (s .fits .offset)) in
+    rw (c .wrapping-add-u32 .ensures, bits) (sym (wrapped-add 32 (s .args .x) (s .args .offset)))
 
 pub offset-by-spec : {M : Type 1} → statement M
-offset-by-spec = tie.close (tie.spec unsigned-of-requires wrapping-add-u32-requires returns)
+offset-by-spec = tie.close (tie.spec (λ c κs. search needs) (λ c κs. search needs) returns)

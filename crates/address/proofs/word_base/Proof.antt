@@ -1,11 +1,10 @@
+use native.Mathlib.Omega.{arith}
+use Rattle.address.proofs.Laws.{all-but-bit}
 use Rattle.address.proofs.word_base.Statement.{statement}
 use Rattle.address.proofs.word_base.Tie as tie
-use Rattle.address.proofs.word_base.Reads as reads
-use Rattle.address.proofs.word_base.Lts as lts
 
--- src/lib.rt:12:1
 returns : tie.Need-returns
-returns c = ?
+returns c = all-but-bit 1 (c .args .x) (omega arith) (omega arith)
 
 pub word-base-spec : {M : Type 1} → statement M
 word-base-spec = tie.close (tie.spec returns)

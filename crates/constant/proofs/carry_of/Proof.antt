@@ -1,21 +1,26 @@
+use mathlib.Core.Path.{_≡_}
+use mathlib.Core.Bool.{true, false, _&&_}
+use native.Mathlib.Omega.{arith}
+use lib.Dec.{ltb}
 use borrow.Author.Needs.{needs}
+use Rattle.constant.specs.Constant.{constant-carry}
+use Rattle.word.proofs.Numbers.{top-bit}
 use Rattle.constant.proofs.carry_of.Statement.{statement}
 use Rattle.constant.proofs.carry_of.Tie as tie
-use Rattle.constant.proofs.carry_of.Reads as reads
-use Rattle.constant.proofs.carry_of.Lts as lts
-use Rattle.constant.proofs.is_shifted_byte.Reads as is-shifted-byte-reads
 
--- src/lib.rt:34:29
-is-shifted-byte-requires : tie.Need-is-shifted-byte-requires
-is-shifted-byte-requires c κs = search needs
-
--- src/lib.rt:36:9
 returns : tie.Need-returns
-returns c = ?
+unfolding constant-carry
+returns c =
+    let x = c .before .before .args .x in
+    let gives : ltb 255 x && c .before .is-shifted-byte .result ≡ true = c .if1 .taken in
+    rw (← c .before .is-shifted-byte .ensures, gives) (top-bit x (omega arith))
 
--- src/lib.rt:31:1
 returns-2 : tie.Need-returns-2
-returns-2 c = ?
+unfolding constant-carry
+returns-2 c =
+    let x = c .before .before .args .x in
+    let leaves : ltb 255 x && c .before .is-shifted-byte .result ≡ false = c .if1 .left in
+    rw (← c .before .is-shifted-byte .ensures, leaves)
 
 pub carry-of-spec : {M : Type 1} → statement M
-carry-of-spec = tie.close (tie.spec is-shifted-byte-requires returns returns-2)
+carry-of-spec = tie.close (tie.spec (λ c κs. search needs) returns returns-2)

@@ -1,19 +1,14 @@
+use mir.Syntax.{w32}
+use mir.Facts.{toZ-ofZ}
+use borrow.Author.Needs.{needs}
 use Rattle.saturate.proofs.saturate.Statement.{statement}
 use Rattle.saturate.proofs.saturate.Tie as tie
-use Rattle.saturate.proofs.saturate.Reads as reads
-use Rattle.saturate.proofs.saturate.Lts as lts
 
--- src/lib.rt:30:9
 returns : tie.Need-returns
-returns c = ?
-
--- src/lib.rt:36:9
-returns-2 : tie.Need-returns-2
-returns-2 c = ?
-
--- src/lib.rt:26:1
-returns-3 : tie.Need-returns-3
-returns-3 c = ?
+returns c =
+    let f = c .before .fits in
+    let value = toZ-ofZ {w = w32} {z = c .nearest .result} (record { sfits = c .nearest .ok }) in
+    rw (value, c .nearest .ensures, toZ-ofZ (f .least), toZ-ofZ (f .most), toZ-ofZ (f .number))
 
 pub saturate-spec : {M : Type 1} → statement M
-saturate-spec = tie.close (tie.spec returns returns-2 returns-3)
+saturate-spec = tie.close (tie.spec (λ c κs. search needs) returns)

@@ -1,22 +1,17 @@
+use lib.IntN.{pos}
+use mir.Facts.{toZ-ofZ}
 use borrow.Author.Needs.{needs}
+use Rattle.saturate.specs.Saturate.{USAT}
+use Rattle.saturate.proofs.Laws.{most-held}
 use Rattle.saturate.proofs.usat.Statement.{statement}
 use Rattle.saturate.proofs.usat.Tie as tie
-use Rattle.saturate.proofs.usat.Reads as reads
-use Rattle.saturate.proofs.usat.Lts as lts
-use Rattle.saturate.proofs.most_of.Reads as most-of-reads
-use Rattle.saturate.proofs.saturate.Reads as saturate-reads
 
--- src/lib.rt:23:17
-most-of-requires : tie.Need-most-of-requires
-most-of-requires c κs = search needs
-
--- src/lib.rt:23:5
-saturate-requires : tie.Need-saturate-requires
-saturate-requires c κs = search needs
-
--- src/lib.rt:20:1
 returns : tie.Need-returns
-returns c = ?
+unfolding USAT
+returns c =
+    let s = c .before .before in
+    rw (c .saturate .ensures, toZ-ofZ (s .fits .number), toZ-ofZ (record { sfits = c .before .most-of .ok }), c .before .most-of .ensures)
+    (most-held (s .args .bits) (pos 0) (s .args .number) (s .fits .number))
 
 pub usat-spec : {M : Type 1} → statement M
-usat-spec = tie.close (tie.spec most-of-requires saturate-requires returns)
+usat-spec = tie.close (tie.spec (λ c κs. search needs) (λ c κs. search needs) returns)
