@@ -3,16 +3,17 @@ use Prim.Native.Nat.{ℕ, zero, suc, _+_, _-_, _*_, _/_, _%_, _^_, _≤_, _<_}
 use mathlib.Core.Path.{_≡_, refl, sym, ap, _∙_, subst}
 use mathlib.Core.Bool.{Bool, true, false}
 use native.Mathlib.Omega.{arith}
-use native.Mathlib.Nat.{mod-eq-of-lt, mod-lt, add-mod-mod, div-add-mod'}
-use lib.Pow.{pow-pos, pow-lt}
+use native.Mathlib.Nat.{mod-eq-of-lt, mod-lt, add-mod-mod, div-add-mod', zero-mod}
+use lib.Pow.{pow-pos}
 use borrow.Author.Tests.{ltb-true, lt-ltb, le-ltb, lt-leb, le-leb}
 use lib.Dec.{T}
-use lib.IntN.{ℤ, pos, negsuc, _-ℤ_, _+ℤ_}
-use lib.Signed.{ltZ}
-use mir.Syntax.{Width, w8, w16, w32, w64, w128}
-use mir.Val.{SFits, toZ, ofZ, bits, hbits}
+use lib.IntN.{ℤ, pos, negsuc, natAbs, _-ℤ_, _+ℤ_}
+use lib.Signed.{ltZ, nonNeg}
+use mir.Syntax.{Width, w32}
+use mir.Val.{Fits, SFits, toZ, ofZ, bits}
+use mir.ValLaws.{half-full}
 use mir.Facts.{toZ-ofZ, ofZ-toZ, sfits-toZ}
-use Rattle.word.specs.Word.{signed, signed-in, wrapped}
+use Rattle.word.specs.Word.{signed, signed-in, wrapped, inverted}
 use Rattle.word.proofs.Cases.{cases, le-or-gt}
 use Rattle.word.proofs.Numbers.{same-rest}
 
@@ -32,22 +33,10 @@ signed-bits x h =
     (λ l. rw (signed-small x l, lt-ltb x (2 ^ 31) l))
 
 -- the bits of a signed number of any width are the integer modulo 2 ^ that width
-less : (w : Width) → hbits w < bits w
-less w8 = omega arith
-less w16 = omega arith
-less w32 = omega arith
-less w64 = omega arith
-less w128 = omega arith
-
-half-less : (w : Width) → 2 ^ hbits w < 2 ^ bits w
-half-less w = pow-lt (less w)
-
 pub wrapped-bits : {w : Width} (z : ℤ) → SFits w z → ofZ w z ≡ wrapped (bits w) z
 unfolding wrapped
-wrapped-bits {w} (pos n) f = sym (mod-eq-of-lt (omega (arith, f .sfits, half-less w)))
-wrapped-bits {w} (negsuc n) f =
-    let e : n % 2 ^ bits w ≡ n = mod-eq-of-lt (omega (arith, f .sfits, half-less w)) in
-    rw e (omega (arith, f .sfits, half-less w))
+wrapped-bits {w} (pos n) f = sym (mod-eq-of-lt (half-full w (f .sfits)))
+wrapped-bits {w} (negsuc n) f = rw (mod-eq-of-lt (half-full w (f .sfits))) (omega arith)
 
 -- the bits of a word's signed number are the word
 pub bits-of-signed : (x : ℕ) → x < 2 ^ 32 → ofZ w32 (signed x) ≡ x
@@ -62,15 +51,6 @@ wrapped-signed x h =
 pub of-bits : {w : Width} (z : ℤ) (n : ℕ) → SFits w z → ofZ w z ≡ n → z ≡ toZ w n
 of-bits {w} z n f e = sym (toZ-ofZ f) ∙ ap (toZ w) e
 
--- the test `z < 0` passed, or failed
-pub below-zero : {w : Width} (z : ℤ) → SFits w z → ltZ z (pos 0) ≡ true → (n : ℕ) × (z ≡ negsuc n) × (n < 2 ^ hbits w)
-below-zero (pos n) f e = absurd (omega (arith, ltb-true n 0 e))
-below-zero (negsuc n) f e = (n, refl, f .sfits)
-
-pub from-zero : {w : Width} (z : ℤ) → SFits w z → ltZ z (pos 0) ≡ false → (n : ℕ) × (z ≡ pos n) × (n < 2 ^ hbits w)
-from-zero (pos n) f e = (n, refl, f .sfits)
-from-zero (negsuc n) f e = let z : _≡_ {A = Bool} true false = e in absurd (subst (λ (b : Bool). T b) z tt)
-
 -- a difference below zero
 pub minus-more : (a b : ℕ) → a < b → pos a -ℤ pos b ≡ negsuc (b - suc a)
 minus-more a zero h = absurd (omega arith)
@@ -83,6 +63,14 @@ minus-one-minus n = rw (le-ltb (suc n) 1 (omega arith)) (ap pos (omega arith))
 pub minus-one-less : (n : ℕ) → negsuc 0 -ℤ pos n ≡ negsuc n
 minus-one-less zero = refl
 minus-one-less (suc n) = ap negsuc (omega arith)
+
+pub signed-inverted : (x : ℕ) → x < 2 ^ 32 → signed (inverted x) ≡ negsuc 0 -ℤ signed x
+signed-inverted x h =
+    cases (le-or-gt (2 ^ 31) x)
+    (λ l. rw (signed-large x l h, signed-small (inverted x) (omega arith), minus-one-minus (2 ^ 32 - suc x)) (ap pos (omega arith)))
+    (λ l.
+    rw (signed-small x l, signed-large (inverted x) (omega arith) (omega arith), minus-one-less x)
+    (ap negsuc (omega arith)))
 
 -- a sum modulo 2 ^ k is the sum of the bits
 pub wrapped-add : (k x : ℕ) (z : ℤ) → wrapped k (pos x +ℤ z) ≡ (x + wrapped k z) % 2 ^ k
@@ -102,3 +90,38 @@ wrapped-add k x (negsuc n) =
     let d-rest = mod-lt d (pow-pos k) in
     let e : m - 1 - d % m + n / m * m ≡ x + (m - 1 - n % m) + d / m * m = omega arith in
     rw (lt-ltb x (suc n) l) (sym (mod-eq-of-lt {n = m - 1 - d % m} {m = m} (omega arith)) ∙ same-rest m (m - 1 - d % m) (x + (m - 1 - n % m)) (n / m) (d / m) e))
+
+-- a difference modulo 2 ^ k
+pub wrapped-subtract : (k x n : ℕ) → wrapped k (pos x -ℤ pos n) ≡ (x + (2 ^ k - n % 2 ^ k)) % 2 ^ k
+unfolding wrapped
+wrapped-subtract k x zero =
+    let m = 2 ^ k in
+    rw (wrapped-add k x (pos 0), zero-mod m) (same-rest m (x + 0) (x + (m - 0)) 1 0 (omega arith))
+wrapped-subtract k x (suc n) =
+    let m = 2 ^ k in
+    let n-parts = div-add-mod' n m in
+    let n-rest = mod-lt n (pow-pos k) in
+    let suc-parts = div-add-mod' (suc n) m in
+    let suc-rest = mod-lt (suc n) (pow-pos k) in
+    let e : x + (m - 1 - n % m) + suc n / m * m ≡ x + (m - suc n % m) + n / m * m = omega arith in
+    rw (wrapped-add k x (negsuc n)) (same-rest m (x + (m - 1 - n % m)) (x + (m - suc n % m)) (suc n / m) (n / m) e)
+
+-- every bit of a signed number turned over
+pub turned-fits : {w : Width} (z : ℤ) → SFits w z → SFits w (negsuc 0 -ℤ z)
+turned-fits (pos n) f = rw (minus-one-less n) (record { sfits = f .sfits })
+turned-fits (negsuc n) f = rw (minus-one-minus n) (record { sfits = f .sfits })
+
+-- the bits of a number below 0 are those of -1 - z turned over, and from 0 on they are the number
+pub bits-below : {w : Width} (z : ℤ) → SFits w z → ltZ z (pos 0) ≡ true
+    → T (nonNeg (negsuc 0 -ℤ z)) × Fits w (natAbs (negsuc 0 -ℤ z)) × (2 ^ bits w - 1 - natAbs (negsuc 0 -ℤ z) ≡ wrapped (bits w) z)
+unfolding wrapped
+bits-below (pos n) f e = absurd (omega (arith, ltb-true n 0 e))
+bits-below {w} (negsuc n) f e =
+    let h = half-full w (f .sfits) in
+    rw (minus-one-minus n) (tt, record { fits = h }, rw (mod-eq-of-lt h))
+
+pub bits-from : {w : Width} (z : ℤ) → SFits w z → ltZ z (pos 0) ≡ false
+    → T (nonNeg z) × Fits w (natAbs z) × (natAbs z ≡ wrapped (bits w) z)
+unfolding wrapped
+bits-from {w} (pos n) f e = let h = half-full w (f .sfits) in (tt, record { fits = h }, sym (mod-eq-of-lt h))
+bits-from (negsuc n) f e = let z : _≡_ {A = Bool} true false = e in absurd (subst (λ (b : Bool). T b) z tt)

@@ -1,13 +1,14 @@
 -- Numbers shifted by powers of two.
 use Prim.Native.Nat.{ℕ, suc, _+_, _-_, _*_, _/_, _%_, _^_, _≤_, _<_, min}
-use mathlib.Core.Path.{_≡_, sym, ap, _∙_}
-use mathlib.Core.Bool.{Bool, true, false}
+use mathlib.Core.Path.{_≡_, refl, sym, ap, _∙_}
+use mathlib.Core.Bool.{Bool, true, false, not}
 use native.Mathlib.Omega.{arith}
-use native.Mathlib.Nat.{le-of-lt, mul-mod-left, mul-div-cancel, mul-assoc, div-eq-of-lt, lt-of-lt-of-le, sub-add-cancel, add-mul-mod-self-right, mod-eq-of-lt, pow-suc}
+use native.Mathlib.Nat.{le-of-lt, mul-mod-left, mul-div-cancel, mul-assoc, div-eq-of-lt, lt-of-lt-of-le, sub-add-cancel, add-mul-mod-self-right, mod-eq-of-lt, pow-suc, div-eq-of-lt-le}
+use native.Mathlib.Numerals.{one-add}
 use lib.Dec.{eqb, leb}
-use lib.Pow.{pow-add, pow-pos, pow-mono, mod-pow-add, shl-shr, ones-lt, ones-split, low, high}
+use lib.Pow.{pow-add, pow-pos, pow-mono, mod-pow-add, shl-shr, ones-lt, ones-split, low, shr-lt}
 use borrow.Author.Tests.{le-leb, lt-leb}
-use Rattle.word.specs.Word.{bit, negative, one-if}
+use Rattle.word.specs.Word.{bit, one-if}
 use Rattle.word.proofs.Cases.{cases, le-or-gt}
 
 -- a shift by n is one by n - k and one by k
@@ -63,17 +64,19 @@ mod-min x w k h =
     let e : min w k ≡ k = omega arith in
     rw (e, mod-eq-of-lt h, mod-eq-of-lt (lt-of-lt-of-le h (pow-mono (le-of-lt l)))))
 
+-- a number below m + m holds m once or not at all
+pub holds-once : (m x : ℕ) → x < m + m → eqb (x / m) 1 ≡ leb m x
+holds-once m x h =
+    cases (le-or-gt m x)
+    (λ l. let e : x / m ≡ 1 = div-eq-of-lt-le m (omega arith) (omega arith) in rw (e, le-leb m x l))
+    (λ l. let e : x / m ≡ 0 = div-eq-of-lt l in rw (e, lt-leb m x l))
+
 -- the highest of n + 1 bits by comparison
 pub highest : (n x : ℕ) → x < 2 ^ suc n → bit n x ≡ leb (2 ^ n) x
 highest n x h =
-    let p = pow-suc 2 n in
-    cases (le-or-gt (2 ^ n) x)
-    (λ l.
-    let e : 1 * 2 ^ n + (x - 2 ^ n) ≡ x = omega arith in
-    let q : x / 2 ^ n ≡ 1 = rw e at (high 1 n {lo = x - 2 ^ n} (omega arith)) in
-    rw (q, le-leb (2 ^ n) x l))
-    (λ l. rw (div-eq-of-lt l, lt-leb (2 ^ n) x l))
+    let e = mod-eq-of-lt {n = x / 2 ^ n} {m = 2} (shr-lt 1 n (rw (one-add n) h)) in
+    rw e (holds-once (2 ^ n) x (omega (arith, pow-suc 2 n)))
 
--- bit 31 of a word by its shift
-pub top-bit : (x : ℕ) → x < 2 ^ 32 → eqb (x / 2 ^ 31) 1 ≡ negative x
-top-bit x h = rw (← mod-eq-of-lt {n = x / 2 ^ 31} {m = 2} (omega arith)) (highest 31 x h)
+pub one-if-either : (b : Bool) → one-if b + one-if (not b) ≡ 1
+one-if-either true = refl
+one-if-either false = refl

@@ -1,61 +1,43 @@
+use lib.IntN.{_*ℤ_}
+use mir.Syntax.{w32, w64}
+use mir.Val.{SFits}
+use mir.Facts.{toZ-ofZ, sfits-widen}
 use borrow.Author.Needs.{needs}
+use Rattle.product.proofs.Laws.{product-fits, widened}
 use Rattle.product.proofs.signed_product.Statement.{statement}
 use Rattle.product.proofs.signed_product.Tie as tie
-use Rattle.product.proofs.signed_product.Reads as reads
-use Rattle.product.proofs.signed_product.Lts as lts
-use Rattle.word.proofs.signed_of.Reads as signed-of-reads
 
--- src/lib.rt:81:18
-signed-of-requires : tie.Need-signed-of-requires
-signed-of-requires c κs = search needs
+first : (c : tie.After-signed-of) → SFits w32 (c .signed-of .result)
+first c = record { sfits = c .signed-of .ok }
 
--- src/lib.rt:81:18
-cast-number : tie.Need-cast-number
-cast-number c = ?
+second : (c : tie.After-signed-of2) → SFits w32 (c .signed-of2 .result)
+second c = record { sfits = c .signed-of2 .ok }
 
--- src/lib.rt:81:46
-signed-of-requires-2 : tie.Need-signed-of-requires-2
-signed-of-requires-2 c κs = search needs
+fits : (c : tie.After-signed-of2) → SFits w64 (c .before .signed-of .result *ℤ c .signed-of2 .result)
+fits c = product-fits (c .before .signed-of .result) (c .signed-of2 .result) (first (c .before)) (second c)
 
--- src/lib.rt:81:46
-cast-number-2 : tie.Need-cast-number-2
-cast-number-2 c = ?
+cast-bits-of : tie.Need-cast-bits-of
+cast-bits-of c = rw (toZ-ofZ (first c)) (sfits-widen tt (first c))
 
--- src/lib.rt:81:18
-mul-number : tie.Need-mul-number
-mul-number c = ?
+cast-bits-of-2 : tie.Need-cast-bits-of-2
+cast-bits-of-2 c = rw (toZ-ofZ (second c)) (sfits-widen tt (second c))
 
--- src/lib.rt:83:19
-sub-result : tie.Need-sub-result
-sub-result c = ?
+mul-bits-of : tie.Need-mul-bits-of
+mul-bits-of c = rw (widened (first (c .before)), widened (second c)) (fits c)
 
--- src/lib.rt:83:18
-cast-result : tie.Need-cast-result
-cast-result c = ?
-
--- src/lib.rt:83:9
 returns : tie.Need-returns
-returns c = ?
-
--- src/lib.rt:85:5
-cast-result-2 : tie.Need-cast-result-2
-cast-result-2 c = ?
-
--- src/lib.rt:78:1
-returns-2 : tie.Need-returns-2
-returns-2 c = ?
+returns c =
+    let d = c .before in
+    rw (
+      c .bits-of .ensures,
+      widened (first (d .before)),
+      widened (second d),
+      toZ-ofZ (fits d),
+      d .before .signed-of .ensures,
+      d .signed-of2 .ensures,
+    )
 
 pub signed-product-spec : {M : Type 1} → statement M
 signed-product-spec =
     tie.close
-    (tie.spec
-    signed-of-requires
-    cast-number
-    signed-of-requires-2
-    cast-number-2
-    mul-number
-    sub-result
-    cast-result
-    returns
-    cast-result-2
-    returns-2)
+    (tie.spec (λ c κs. search needs) cast-bits-of (λ c κs. search needs) cast-bits-of-2 mul-bits-of (λ c κs. search needs) returns)

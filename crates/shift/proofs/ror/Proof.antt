@@ -3,7 +3,7 @@ use mathlib.Core.Path.{_≡_}
 use native.Mathlib.Omega.{arith}
 use borrow.Author.Needs.{needs}
 use borrow.Author.Tests.{eqb-true}
-use Rattle.word.proofs.Numbers.{top-bit}
+use Rattle.word.proofs.Numbers.{holds-once}
 use Rattle.shift.specs.Shift.{ROR, rotated}
 use Rattle.shift.proofs.ror.Statement.{statement}
 use Rattle.shift.proofs.ror.Tie as tie
@@ -18,7 +18,7 @@ returns c =
 returns-2 : tie.Need-returns-2
 unfolding ROR
 returns-2 c =
-    simp (← c .rotate-right .ensures, top-bit (c .rotate-right .result) (omega arith), c .before .if1 .left)
+    simp (← c .rotate-right .ensures, holds-once (2 ^ 31) (c .rotate-right .result) (omega arith), c .before .if1 .left)
 
 pub ror-spec : {M : Type 1} → statement M
 ror-spec = tie.close (tie.spec returns (λ c κs. search needs) returns-2)
