@@ -1,8 +1,10 @@
 -- Case splits. The sum stands first, so that what each case knows is there for `omega` and `simp`.
-use Prim.Native.Nat.{ℕ, _≤_, _<_}
+use Prim.Native.Nat.{ℕ, zero, suc, _≤_, _<_}
 use mathlib.Core.Path.{_≡_, refl, sym}
 use mathlib.Core.Bool.{Bool, true, false, false≢true, _&&_}
 use mathlib.Core.Logic.{_⊎_, inl, inr, ⊎-elim}
+use native.Mathlib.Omega.{arith}
+use lib.Arith.{lt-of-le-ne}
 use lib.Dec.{leb}
 use borrow.Author.Tests.{leb-true, leb-false, le-leb}
 
@@ -29,3 +31,12 @@ both-true false b h = absurd (false≢true h)
 pub leb-both : (a b c d : ℕ) → (a ≤ b → c ≤ d) → (c ≤ d → a ≤ b) → leb a b ≡ leb c d
 leb-both a b c d to from =
     same-truth (leb a b) (leb c d) (λ e. le-leb c d (to (leb-true a b e))) (λ e. le-leb a b (from (leb-true c d e)))
+
+-- the last arm of a match on the numbers 0, 1, .. k - 1: what it knows of n, and that n is k or more
+abbrev pub None-below : ℕ → ℕ → Type 0
+None-below zero n = Unit {0}
+None-below (suc k) n = None-below k n × (n ≡ k → ⊥)
+
+pub not-below : (k n : ℕ) → None-below k n → k ≤ n
+not-below zero n p = omega arith
+not-below (suc k) n p = lt-of-le-ne (not-below k n (p .0)) (λ e. p .1 (sym e))

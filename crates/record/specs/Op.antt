@@ -1,0 +1,94 @@
+-- "Names in a row are ops 0, 1, 2 and on." A number past a row stands for none: the reading refuses it, and the last name is given here.
+use Prim.Native.Nat.{ℕ}
+use mathlib.Core.List.{[], _∷_}
+use lib.ListN.{getD}
+use Rattle.record.specs.declared.op.DataOp.{DataOp}
+use Rattle.record.specs.declared.op.DataOp.the-variants.{Add, Adc, Sub, Sbc, Rsb, And, Orr, Eor, Bic, Orn, Mov, Mvn, Cmp, Cmn, Tst, Teq}
+use Rattle.record.specs.declared.op.Shift.{Shift}
+use Rattle.record.specs.declared.op.Shift.the-variants.{Lsl, Lsr, Asr, Ror, Rrx}
+use Rattle.record.specs.declared.op.AddOp.{AddOp}
+use Rattle.record.specs.declared.op.AddOp.the-variants.{Addw, Subw}
+use Rattle.record.specs.declared.op.MoveOp.{MoveOp}
+use Rattle.record.specs.declared.op.MoveOp.the-variants.{Movw, Movt}
+use Rattle.record.specs.declared.op.TurnOp.{TurnOp}
+use Rattle.record.specs.declared.op.TurnOp.the-variants.{Clz, Rev, Rev16, Revsh, Rbit}
+use Rattle.record.specs.declared.op.MultiplyOp.{MultiplyOp}
+use Rattle.record.specs.declared.op.MultiplyOp.the-variants.{Mul, Mla, Mls}
+use Rattle.record.specs.declared.op.LongOp.{LongOp}
+use Rattle.record.specs.declared.op.LongOp.the-variants.{Umull, Umlal, Smull, Smlal}
+use Rattle.record.specs.declared.op.DivideOp.{DivideOp}
+use Rattle.record.specs.declared.op.DivideOp.the-variants.{Sdiv, Udiv}
+use Rattle.record.specs.declared.op.SaturateOp.{SaturateOp}
+use Rattle.record.specs.declared.op.SaturateOp.the-variants.{Ssat, Usat}
+use Rattle.record.specs.declared.op.FieldOp.{FieldOp}
+use Rattle.record.specs.declared.op.FieldOp.the-variants.{Bfc, Bfi, Sbfx, Ubfx}
+use Rattle.record.specs.declared.op.ExtendOp.{ExtendOp}
+use Rattle.record.specs.declared.op.ExtendOp.the-variants.{Sxtb, Sxth, Uxtb, Uxth}
+use Rattle.record.specs.declared.op.AccessOp.{AccessOp}
+use Rattle.record.specs.declared.op.AccessOp.the-variants.{Ldr, Ldrb, Ldrh, Ldrsb, Ldrsh, Str, Strb, Strh}
+use Rattle.record.specs.declared.op.DualOp.{DualOp}
+use Rattle.record.specs.declared.op.DualOp.the-variants.{Ldrd, Strd}
+use Rattle.record.specs.declared.op.MultipleOp.{MultipleOp}
+use Rattle.record.specs.declared.op.MultipleOp.the-variants.{Ldmia, Ldmdb, Stmia, Stmdb}
+use Rattle.record.specs.declared.op.BranchOp.{BranchOp}
+use Rattle.record.specs.declared.op.BranchOp.the-variants.{B, Bl}
+use Rattle.record.specs.declared.op.RegisterOp.{RegisterOp}
+use Rattle.record.specs.declared.op.RegisterOp.the-variants.{Bx, Blx}
+use Rattle.record.specs.declared.op.CompareOp.{CompareOp}
+use Rattle.record.specs.declared.op.CompareOp.the-variants.{Cbz, Cbnz}
+use Rattle.record.specs.declared.op.Mode.{Mode}
+use Rattle.record.specs.declared.op.Mode.the-variants.{Offset, PreIndexed, PostIndexed}
+
+abbrev pub data-op : ℕ → DataOp
+data-op code = getD (Add ∷ Adc ∷ Sub ∷ Sbc ∷ Rsb ∷ And ∷ Orr ∷ Eor ∷ Bic ∷ Orn ∷ Mov ∷ Mvn ∷ Cmp ∷ Cmn ∷ Tst ∷ []) code Teq
+
+abbrev pub shift : ℕ → Shift
+shift code = getD (Lsl ∷ Lsr ∷ Asr ∷ Ror ∷ []) code Rrx
+
+abbrev pub add-op : ℕ → AddOp
+add-op code = getD (Addw ∷ []) code Subw
+
+abbrev pub move-op : ℕ → MoveOp
+move-op code = getD (Movw ∷ []) code Movt
+
+abbrev pub turn-op : ℕ → TurnOp
+turn-op code = getD (Clz ∷ Rev ∷ Rev16 ∷ Revsh ∷ []) code Rbit
+
+abbrev pub multiply-op : ℕ → MultiplyOp
+multiply-op code = getD (Mul ∷ Mla ∷ []) code Mls
+
+abbrev pub long-op : ℕ → LongOp
+long-op code = getD (Umull ∷ Umlal ∷ Smull ∷ []) code Smlal
+
+abbrev pub divide-op : ℕ → DivideOp
+divide-op code = getD (Sdiv ∷ []) code Udiv
+
+abbrev pub saturate-op : ℕ → SaturateOp
+saturate-op code = getD (Ssat ∷ []) code Usat
+
+abbrev pub field-op : ℕ → FieldOp
+field-op code = getD (Bfc ∷ Bfi ∷ Sbfx ∷ []) code Ubfx
+
+abbrev pub extend-op : ℕ → ExtendOp
+extend-op code = getD (Sxtb ∷ Sxth ∷ Uxtb ∷ []) code Uxth
+
+abbrev pub access-op : ℕ → AccessOp
+access-op code = getD (Ldr ∷ Ldrb ∷ Ldrh ∷ Ldrsb ∷ Ldrsh ∷ Str ∷ Strb ∷ []) code Strh
+
+abbrev pub dual-op : ℕ → DualOp
+dual-op code = getD (Ldrd ∷ []) code Strd
+
+abbrev pub multiple-op : ℕ → MultipleOp
+multiple-op code = getD (Ldmia ∷ Ldmdb ∷ Stmia ∷ []) code Stmdb
+
+abbrev pub branch-op : ℕ → BranchOp
+branch-op code = getD (B ∷ []) code Bl
+
+abbrev pub register-op : ℕ → RegisterOp
+register-op code = getD (Bx ∷ []) code Blx
+
+abbrev pub compare-op : ℕ → CompareOp
+compare-op code = getD (Cbz ∷ []) code Cbnz
+
+abbrev pub mode : ℕ → Mode
+mode code = getD (Offset ∷ PreIndexed ∷ []) code PostIndexed
