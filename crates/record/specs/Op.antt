@@ -1,5 +1,6 @@
 -- "Names in a row are ops 0, 1, 2 and on." A number past a row stands for none: the reading refuses it, and the last name is given here.
 use Prim.Native.Nat.{ℕ}
+use mathlib.Core.Bool.{Bool, true, false}
 use mathlib.Core.List.{[], _∷_}
 use lib.ListN.{getD}
 use Rattle.record.specs.declared.op.DataOp.{DataOp}
@@ -92,3 +93,67 @@ compare-op code = getD (Cbz ∷ []) code Cbnz
 
 abbrev pub mode : ℕ → Mode
 mode code = getD (Offset ∷ PreIndexed ∷ []) code PostIndexed
+
+-- the number of an operation of kinds 01 and 02
+abbrev pub data-code : DataOp → ℕ
+data-code Add = 0
+data-code Adc = 1
+data-code Sub = 2
+data-code Sbc = 3
+data-code Rsb = 4
+data-code And = 5
+data-code Orr = 6
+data-code Eor = 7
+data-code Bic = 8
+data-code Orn = 9
+data-code Mov = 10
+data-code Mvn = 11
+data-code Cmp = 12
+data-code Cmn = 13
+data-code Tst = 14
+data-code Teq = 15
+
+abbrev pub is-lsl : Shift → Bool
+is-lsl Lsl = true
+is-lsl Lsr = false
+is-lsl Asr = false
+is-lsl Ror = false
+is-lsl Rrx = false
+
+abbrev pub is-mul : MultiplyOp → Bool
+is-mul Mul = true
+is-mul Mla = false
+is-mul Mls = false
+
+abbrev pub loads : AccessOp → Bool
+loads Ldr = true
+loads Ldrb = true
+loads Ldrh = true
+loads Ldrsb = true
+loads Ldrsh = true
+loads Str = false
+loads Strb = false
+loads Strh = false
+
+abbrev pub loads-dual : DualOp → Bool
+loads-dual Ldrd = true
+loads-dual Strd = false
+
+abbrev pub loads-many : MultipleOp → Bool
+loads-many Ldmia = true
+loads-many Ldmdb = true
+loads-many Stmia = false
+loads-many Stmdb = false
+
+abbrev pub is-bl : BranchOp → Bool
+is-bl B = false
+is-bl Bl = true
+
+abbrev pub is-blx : RegisterOp → Bool
+is-blx Bx = false
+is-blx Blx = true
+
+abbrev pub is-offset : Mode → Bool
+is-offset Offset = true
+is-offset PreIndexed = false
+is-offset PostIndexed = false

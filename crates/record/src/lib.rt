@@ -28,7 +28,7 @@ pub struct Form {
 }
 
 // 01
-pub struct ShiftedRegister {
+pub struct ShiftedRegisterFields {
     pub op: DataOp,
     pub form: Form,
     pub rd: u8,
@@ -39,7 +39,7 @@ pub struct ShiftedRegister {
 }
 
 // 02
-pub struct Constant {
+pub struct ConstantFields {
     pub op: DataOp,
     pub form: Form,
     pub rd: u8,
@@ -48,7 +48,7 @@ pub struct Constant {
 }
 
 // 03: Rn shifted by the number in Rs
-pub struct RegisterShift {
+pub struct RegisterShiftFields {
     pub shift: Shift,
     pub form: Form,
     pub rd: u8,
@@ -57,7 +57,7 @@ pub struct RegisterShift {
 }
 
 // 04
-pub struct AddNumber {
+pub struct AddNumberFields {
     pub op: AddOp,
     pub form: Form,
     pub rd: u8,
@@ -66,7 +66,7 @@ pub struct AddNumber {
 }
 
 // 05
-pub struct MoveNumber {
+pub struct MoveNumberFields {
     pub op: MoveOp,
     pub form: Form,
     pub rd: u8,
@@ -74,7 +74,7 @@ pub struct MoveNumber {
 }
 
 // 06
-pub struct Turn {
+pub struct TurnFields {
     pub op: TurnOp,
     pub form: Form,
     pub rd: u8,
@@ -82,7 +82,7 @@ pub struct Turn {
 }
 
 // 07
-pub struct Multiply {
+pub struct MultiplyFields {
     pub op: MultiplyOp,
     pub form: Form,
     pub rd: u8,
@@ -92,17 +92,17 @@ pub struct Multiply {
 }
 
 // 08
-pub struct LongMultiply {
+pub struct LongMultiplyFields {
     pub op: LongOp,
     pub form: Form,
-    pub rd_lo: u8,
-    pub rd_hi: u8,
+    pub low: u8,
+    pub high: u8,
     pub rn: u8,
     pub rm: u8,
 }
 
 // 09
-pub struct Divide {
+pub struct DivideFields {
     pub op: DivideOp,
     pub form: Form,
     pub rd: u8,
@@ -111,7 +111,7 @@ pub struct Divide {
 }
 
 // 0A
-pub struct Saturate {
+pub struct SaturateFields {
     pub op: SaturateOp,
     pub form: Form,
     pub rd: u8,
@@ -122,7 +122,7 @@ pub struct Saturate {
 }
 
 // 0B
-pub struct BitField {
+pub struct BitFieldFields {
     pub op: FieldOp,
     pub form: Form,
     pub rd: u8,
@@ -132,7 +132,7 @@ pub struct BitField {
 }
 
 // 0C
-pub struct Extend {
+pub struct ExtendFields {
     pub op: ExtendOp,
     pub form: Form,
     pub rd: u8,
@@ -141,7 +141,7 @@ pub struct Extend {
 }
 
 // 0D
-pub struct Access {
+pub struct AccessFields {
     pub op: AccessOp,
     pub form: Form,
     pub rt: u8,
@@ -151,7 +151,7 @@ pub struct Access {
 }
 
 // 0E: the offset is Rm shifted left
-pub struct IndexedAccess {
+pub struct IndexedAccessFields {
     pub op: AccessOp,
     pub form: Form,
     pub rt: u8,
@@ -161,7 +161,7 @@ pub struct IndexedAccess {
 }
 
 // 0F
-pub struct DualAccess {
+pub struct DualAccessFields {
     pub op: DualOp,
     pub form: Form,
     pub rt: u8,
@@ -172,16 +172,16 @@ pub struct DualAccess {
 }
 
 // 10
-pub struct MultipleAccess {
+pub struct MultipleAccessFields {
     pub op: MultipleOp,
     pub form: Form,
     pub rn: u8,
-    pub write_back: bool,
+    pub writeback: bool,
     pub list: u16,
 }
 
 // 11
-pub struct Branch {
+pub struct BranchFields {
     pub op: BranchOp,
     pub form: Form,
     pub condition: u8,
@@ -189,14 +189,14 @@ pub struct Branch {
 }
 
 // 12
-pub struct RegisterBranch {
+pub struct RegisterBranchFields {
     pub op: RegisterOp,
     pub form: Form,
     pub rm: u8,
 }
 
 // 13
-pub struct CompareBranch {
+pub struct CompareBranchFields {
     pub op: CompareOp,
     pub form: Form,
     pub rn: u8,
@@ -204,33 +204,33 @@ pub struct CompareBranch {
 }
 
 // 14
-pub struct IfThen {
+pub struct IfThenFields {
     pub form: Form,
     pub condition: u8,
     pub count: u8,
-    pub else_bits: u8,
+    pub elses: u8,
 }
 
 pub enum Record {
-    ShiftedRegister(ShiftedRegister),
-    Constant(Constant),
-    RegisterShift(RegisterShift),
-    AddNumber(AddNumber),
-    MoveNumber(MoveNumber),
-    Turn(Turn),
-    Multiply(Multiply),
-    LongMultiply(LongMultiply),
-    Divide(Divide),
-    Saturate(Saturate),
-    BitField(BitField),
-    Extend(Extend),
-    Access(Access),
-    IndexedAccess(IndexedAccess),
-    DualAccess(DualAccess),
-    MultipleAccess(MultipleAccess),
-    Branch(Branch),
-    RegisterBranch(RegisterBranch),
-    CompareBranch(CompareBranch),
-    IfThen(IfThen),
+    ShiftedRegister(ShiftedRegisterFields),
+    Constant(ConstantFields),
+    RegisterShift(RegisterShiftFields),
+    AddNumber(AddNumberFields),
+    MoveNumber(MoveNumberFields),
+    Turn(TurnFields),
+    Multiply(MultiplyFields),
+    LongMultiply(LongMultiplyFields),
+    Divide(DivideFields),
+    Saturate(SaturateFields),
+    BitField(BitFieldFields),
+    Extend(ExtendFields),
+    Access(AccessFields),
+    IndexedAccess(IndexedAccessFields),
+    DualAccess(DualAccessFields),
+    MultipleAccess(MultipleAccessFields),
+    Branch(BranchFields),
+    RegisterBranch(RegisterBranchFields),
+    CompareBranch(CompareBranchFields),
+    IfThen(IfThenFields),
     Nop(Form),
 }

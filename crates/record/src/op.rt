@@ -1,7 +1,7 @@
 // The operations, shifts and modes that a record names, each by the number that stands for it.
 
 ghost use mathlib.Core.Path.{_≡_};
-ghost use Rattle.record.specs.Op.{data-op, shift, add-op, move-op, turn-op, multiply-op, long-op, divide-op, saturate-op, field-op, extend-op, access-op, dual-op, multiple-op, branch-op, register-op, compare-op, mode};
+ghost use Rattle.record.specs.Op.{data-op, data-code, is-lsl, is-mul, loads, loads-dual, loads-many, is-bl, is-blx, is-offset, shift, add-op, move-op, turn-op, multiply-op, long-op, divide-op, saturate-op, field-op, extend-op, access-op, dual-op, multiple-op, branch-op, register-op, compare-op, mode};
 
 // The operations of kinds 01 and 02.
 pub enum DataOp {
@@ -340,5 +340,114 @@ pub fn mode_of(code: u8) -> Mode
         0 => Mode::Offset,
         1 => Mode::PreIndexed,
         _ => Mode::PostIndexed,
+    }
+}
+
+// The number of an operation of kinds 01 and 02.
+pub fn data_code_of(op: DataOp) -> u8
+    ensures { λ r. ⌜ r ≡ data-code op ⌝ }
+{
+    match op {
+        DataOp::Add => 0,
+        DataOp::Adc => 1,
+        DataOp::Sub => 2,
+        DataOp::Sbc => 3,
+        DataOp::Rsb => 4,
+        DataOp::And => 5,
+        DataOp::Orr => 6,
+        DataOp::Eor => 7,
+        DataOp::Bic => 8,
+        DataOp::Orn => 9,
+        DataOp::Mov => 10,
+        DataOp::Mvn => 11,
+        DataOp::Cmp => 12,
+        DataOp::Cmn => 13,
+        DataOp::Tst => 14,
+        DataOp::Teq => 15,
+    }
+}
+
+pub fn is_lsl_of(op: Shift) -> bool
+    ensures { λ r. ⌜ r ≡ is-lsl op ⌝ }
+{
+    match op {
+        Shift::Lsl => true,
+        Shift::Lsr => false,
+        Shift::Asr => false,
+        Shift::Ror => false,
+        Shift::Rrx => false,
+    }
+}
+
+pub fn is_mul_of(op: MultiplyOp) -> bool
+    ensures { λ r. ⌜ r ≡ is-mul op ⌝ }
+{
+    match op {
+        MultiplyOp::Mul => true,
+        MultiplyOp::Mla => false,
+        MultiplyOp::Mls => false,
+    }
+}
+
+pub fn loads_of(op: AccessOp) -> bool
+    ensures { λ r. ⌜ r ≡ loads op ⌝ }
+{
+    match op {
+        AccessOp::Ldr => true,
+        AccessOp::Ldrb => true,
+        AccessOp::Ldrh => true,
+        AccessOp::Ldrsb => true,
+        AccessOp::Ldrsh => true,
+        AccessOp::Str => false,
+        AccessOp::Strb => false,
+        AccessOp::Strh => false,
+    }
+}
+
+pub fn loads_dual_of(op: DualOp) -> bool
+    ensures { λ r. ⌜ r ≡ loads-dual op ⌝ }
+{
+    match op {
+        DualOp::Ldrd => true,
+        DualOp::Strd => false,
+    }
+}
+
+pub fn loads_many_of(op: MultipleOp) -> bool
+    ensures { λ r. ⌜ r ≡ loads-many op ⌝ }
+{
+    match op {
+        MultipleOp::Ldmia => true,
+        MultipleOp::Ldmdb => true,
+        MultipleOp::Stmia => false,
+        MultipleOp::Stmdb => false,
+    }
+}
+
+pub fn is_bl_of(op: BranchOp) -> bool
+    ensures { λ r. ⌜ r ≡ is-bl op ⌝ }
+{
+    match op {
+        BranchOp::B => false,
+        BranchOp::Bl => true,
+    }
+}
+
+pub fn is_blx_of(op: RegisterOp) -> bool
+    ensures { λ r. ⌜ r ≡ is-blx op ⌝ }
+{
+    match op {
+        RegisterOp::Bx => false,
+        RegisterOp::Blx => true,
+    }
+}
+
+pub fn is_offset_of(op: Mode) -> bool
+    ensures { λ r. ⌜ r ≡ is-offset op ⌝ }
+{
+    match op {
+        Mode::Offset => true,
+        Mode::PreIndexed => false,
+        Mode::PostIndexed => false,
     }
 }

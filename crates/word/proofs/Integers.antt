@@ -4,7 +4,7 @@ use mathlib.Core.Path.{_≡_, refl, sym, ap, _∙_, subst}
 use mathlib.Core.Bool.{Bool, true, false}
 use native.Mathlib.Omega.{arith}
 use native.Mathlib.Nat.{mod-eq-of-lt, mod-lt, add-mod-mod, div-add-mod', zero-mod}
-use lib.Pow.{pow-pos}
+use lib.Pow.{pow-pos, mod-mod-pow, ones-split}
 use borrow.Author.Tests.{ltb-true, lt-ltb, le-ltb, lt-leb, le-leb}
 use lib.Dec.{T}
 use lib.IntN.{ℤ, pos, negsuc, natAbs, _-ℤ_, _+ℤ_}
@@ -125,3 +125,18 @@ pub bits-from : {w : Width} (z : ℤ) → SFits w z → ltZ z (pos 0) ≡ false
 unfolding wrapped
 bits-from {w} (pos n) f e = let h = half-full w (f .sfits) in (tt, record { fits = h }, sym (mod-eq-of-lt h))
 bits-from (negsuc n) f e = let z : _≡_ {A = Bool} true false = e in absurd (subst (λ (b : Bool). T b) z tt)
+
+-- the low k bits of more
+pub wrapped-low : (j k : ℕ) (z : ℤ) → wrapped (j + k) z % 2 ^ k ≡ wrapped k z
+unfolding wrapped
+wrapped-low j k (pos n) = mod-mod-pow n j k
+wrapped-low j k (negsuc n) =
+    let m = 2 ^ k in
+    let whole = 2 ^ (j + k) in
+    let r = n % whole in
+    let s : r % m ≡ n % m = mod-mod-pow n j k in
+    let parts = div-add-mod' r m in
+    let r-rest = mod-lt n (pow-pos (j + k)) in
+    let s-rest = mod-lt r (pow-pos k) in
+    let e : whole - 1 - r + r / m * m ≡ m - 1 - r % m + (2 ^ j - 1) * m = omega (arith, ones-split j k) in
+    rw (← s) (same-rest m (whole - 1 - r) (m - 1 - r % m) (r / m) (2 ^ j - 1) e ∙ mod-eq-of-lt (omega arith))
