@@ -3,34 +3,54 @@ use Prim.Native.Nat.{ℕ, zero, suc, _+_, _-_, _*_, _/_, _%_, _^_, _≤_, _<_}
 use mathlib.Core.Path.{_≡_, refl, sym, ap, _∙_, subst}
 use mathlib.Core.Bool.{Bool, true, false}
 use native.Mathlib.Omega.{arith}
-use native.Mathlib.Nat.{mod-eq-of-lt, mod-lt, add-mod-mod, div-add-mod', zero-mod}
+use native.Mathlib.Nat.{mod-eq-of-lt, mod-lt, add-mod-mod, div-add-mod', zero-mod, pow-suc}
 use lib.Pow.{pow-pos, mod-mod-pow, ones-split}
 use borrow.Author.Tests.{ltb-true, lt-ltb, le-ltb, lt-leb, le-leb}
 use lib.Dec.{T}
 use lib.IntN.{ℤ, pos, negsuc, natAbs, _-ℤ_, _+ℤ_}
 use lib.Signed.{ltZ, nonNeg}
-use mir.Syntax.{Width, w32}
-use mir.Val.{Fits, SFits, toZ, ofZ, bits}
+use mir.Syntax.{Width, w8, w16, w32, w64, w128}
+use mir.Val.{Fits, SFits, toZ, ofZ, bits, hbits}
 use mir.ValLaws.{half-full}
 use mir.Facts.{toZ-ofZ, ofZ-toZ, sfits-toZ}
 use Rattle.word.specs.Word.{signed, signed-in, wrapped, inverted}
 use Rattle.word.proofs.Cases.{cases, le-or-gt}
 use Rattle.word.proofs.Numbers.{same-rest}
 
-pub signed-small : (x : ℕ) → x < 2 ^ 31 → signed x ≡ pos x
+-- a difference below zero
+pub minus-more : (a b : ℕ) → a < b → pos a -ℤ pos b ≡ negsuc (b - suc a)
+minus-more a zero h = absurd (omega arith)
+minus-more a (suc b) h = rw (lt-ltb a (suc b) h)
+
+-- ---- a number of k bits below half of 2 ^ k, and from there on
+below-half : (k x : ℕ) → x < 2 ^ (k - 1) → signed-in k x ≡ pos x
 unfolding signed-in
-signed-small x h = simp (lt-leb (2 ^ 31) x h)
+below-half k x h = rw (lt-leb (2 ^ (k - 1)) x h)
+
+pub from-half : (k x : ℕ) → 2 ^ (k - 1) ≤ x → x < 2 ^ k → signed-in k x ≡ negsuc (2 ^ k - suc x)
+unfolding signed-in
+from-half k x l h = rw (le-leb (2 ^ (k - 1)) x l) (minus-more x (2 ^ k) h)
+
+pub signed-small : (x : ℕ) → x < 2 ^ 31 → signed x ≡ pos x
+signed-small x h = below-half 32 x h
 
 pub signed-large : (x : ℕ) → 2 ^ 31 ≤ x → x < 2 ^ 32 → signed x ≡ negsuc (2 ^ 32 - suc x)
-unfolding signed-in
-signed-large x l h = simp (le-leb (2 ^ 31) x l, lt-ltb x (2 ^ 32) h)
+signed-large x l h = from-half 32 x l h
 
--- the bits of a word read as signed are the word's signed number
-pub signed-bits : (x : ℕ) → x < 2 ^ 32 → toZ w32 x ≡ signed x
-signed-bits x h =
-    cases (le-or-gt (2 ^ 31) x)
-    (λ l. rw (signed-large x l h, le-ltb x (2 ^ 31) l))
-    (λ l. rw (signed-small x l, lt-ltb x (2 ^ 31) l))
+one-more : (w : Width) → bits w ≡ suc (hbits w)
+one-more w8 = refl
+one-more w16 = refl
+one-more w32 = refl
+one-more w64 = refl
+one-more w128 = refl
+
+-- the bits of a number of any width read as signed are its signed number
+pub signed-bits : (w : Width) (x : ℕ) → x < 2 ^ bits w → toZ w x ≡ signed-in (bits w) x
+signed-bits w x h =
+    let e : bits w - 1 ≡ hbits w = omega (arith, one-more w) in
+    cases (le-or-gt (2 ^ hbits w) x)
+    (λ l. rw (from-half (bits w) x (rw e l) h, le-ltb x (2 ^ hbits w) l))
+    (λ l. rw (below-half (bits w) x (rw e l), lt-ltb x (2 ^ hbits w) l))
 
 -- the bits of a signed number of any width are the integer modulo 2 ^ that width
 pub wrapped-bits : {w : Width} (z : ℤ) → SFits w z → ofZ w z ≡ wrapped (bits w) z
@@ -40,21 +60,16 @@ wrapped-bits {w} (negsuc n) f = rw (mod-eq-of-lt (half-full w (f .sfits))) (omeg
 
 -- the bits of a word's signed number are the word
 pub bits-of-signed : (x : ℕ) → x < 2 ^ 32 → ofZ w32 (signed x) ≡ x
-bits-of-signed x h = ap (ofZ w32) (sym (signed-bits x h)) ∙ ofZ-toZ {w = w32} {n = x} (record { fits = h })
+bits-of-signed x h = ap (ofZ w32) (sym (signed-bits w32 x h)) ∙ ofZ-toZ {w = w32} {n = x} (record { fits = h })
 
 pub wrapped-signed : (x : ℕ) → x < 2 ^ 32 → wrapped 32 (signed x) ≡ x
 wrapped-signed x h =
-    let f = rw (signed-bits x h) at (sfits-toZ {w = w32} {n = x} (record { fits = h })) in
+    let f = rw (signed-bits w32 x h) at (sfits-toZ {w = w32} {n = x} (record { fits = h })) in
     sym (wrapped-bits (signed x) f) ∙ bits-of-signed x h
 
 -- a signed number whose bits are known
 pub of-bits : {w : Width} (z : ℤ) (n : ℕ) → SFits w z → ofZ w z ≡ n → z ≡ toZ w n
 of-bits {w} z n f e = sym (toZ-ofZ f) ∙ ap (toZ w) e
-
--- a difference below zero
-pub minus-more : (a b : ℕ) → a < b → pos a -ℤ pos b ≡ negsuc (b - suc a)
-minus-more a zero h = absurd (omega arith)
-minus-more a (suc b) h = rw (lt-ltb a (suc b) h)
 
 -- -1 - z turns every bit of z over
 pub minus-one-minus : (n : ℕ) → negsuc 0 -ℤ negsuc n ≡ pos n
@@ -63,6 +78,18 @@ minus-one-minus n = rw (le-ltb (suc n) 1 (omega arith)) (ap pos (omega arith))
 pub minus-one-less : (n : ℕ) → negsuc 0 -ℤ pos n ≡ negsuc n
 minus-one-less zero = refl
 minus-one-less (suc n) = ap negsuc (omega arith)
+
+-- a number from half on is read by turning its bits over and taking that from -1
+pub turned-over : (w : Width) (x : ℕ) → 2 ^ hbits w ≤ x → x < 2 ^ bits w
+    → let z = negsuc 0 -ℤ toZ w (2 ^ bits w - 1 - x) in SFits w z × (toZ w (ofZ w z) ≡ signed-in (bits w) x)
+turned-over w x l h =
+    let y = 2 ^ bits w - 1 - x in
+    let twice : 2 ^ bits w ≡ 2 ^ hbits w * 2 = rw (one-more w) (pow-suc 2 (hbits w)) in
+    let small : y < 2 ^ hbits w = omega arith in
+    let e : bits w - 1 ≡ hbits w = omega (arith, one-more w) in
+    let f : SFits w (negsuc y) = record { sfits = small } in
+    let g : 2 ^ bits w - suc x ≡ y = omega arith in
+    rw (lt-ltb y (2 ^ hbits w) small, minus-one-less y) (f, toZ-ofZ f ∙ sym (rw g at (from-half (bits w) x (rw e l) h)))
 
 pub signed-inverted : (x : ℕ) → x < 2 ^ 32 → signed (inverted x) ≡ negsuc 0 -ℤ signed x
 signed-inverted x h =

@@ -2,7 +2,7 @@
 
 ghost use mathlib.Core.Path.{_≡_};
 ghost use Prim.Native.Nat.{_-_, _%_, _^_};
-ghost use Rattle.word.specs.Word.{one-if, bit, signed, wrapped};
+ghost use Rattle.word.specs.Word.{one-if, bit, signed, signed-in, wrapped};
 
 pub fn one_if(truth: bool) -> u32
     ensures { λ r. ⌜ r ≡ one-if truth ⌝ }
@@ -37,6 +37,15 @@ pub fn signed_of(x: u32) -> i32
         return x as i32;
     }
     -1 - (!x as i32)
+}
+
+pub fn signed_half_of(x: u16) -> i16
+    ensures { λ r. ⌜ r ≡ signed-in 16 x ⌝ }
+{
+    if x < 0x8000 {
+        return x as i16;
+    }
+    -1 - (!x as i16)
 }
 
 pub fn unsigned_of(number: i32) -> u32

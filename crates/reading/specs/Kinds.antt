@@ -1,0 +1,229 @@
+-- The table of kinds: "One byte of kind (hex), then a body whose length the kind fixes. .. Numbers little-endian."
+use Prim.Native.Nat.{ℕ, _+_, _*_, _^_}
+use mathlib.Core.Bool.{Bool}
+use mathlib.Core.List.{List, [], _∷_}
+use lib.ListN.{getD}
+use Rattle.word.specs.Word.{bit, signed, signed-in}
+use Rattle.little.specs.Little.{byte}
+use Rattle.record.specs.Op.{access-op, add-op, branch-op, compare-op, data-op, divide-op, dual-op, extend-op, field-op, long-op, mode, move-op, multiple-op, multiply-op, register-op, saturate-op, shift, turn-op}
+use Rattle.record.specs.declared.Form.{Form}
+use Rattle.record.specs.declared.Record.{Record}
+use Rattle.record.specs.declared.Record.the-variants.{ShiftedRegister, Constant, RegisterShift, AddNumber, MoveNumber, Turn, Multiply, LongMultiply, Divide, Saturate, BitField, Extend, Access, IndexedAccess, DualAccess, MultipleAccess, Branch, RegisterBranch, CompareBranch, IfThen, Nop}
+
+-- the bytes of a record of each kind, its kind byte included; 0: there is no such kind
+abbrev pub listing-length : ℕ → ℕ
+listing-length kind = getD (0 ∷ 8 ∷ 9 ∷ 6 ∷ 7 ∷ 6 ∷ 5 ∷ 7 ∷ 7 ∷ 6 ∷ 8 ∷ 7 ∷ 6 ∷ 8 ∷ 7 ∷ 9 ∷ 7 ∷ 8 ∷ 4 ∷ 5 ∷ 5 ∷ 2 ∷ []) kind 0
+
+-- the names in each row of the table, which its second byte counts
+abbrev pub names : ℕ → ℕ
+names kind = getD (0 ∷ 16 ∷ 16 ∷ 4 ∷ 2 ∷ 2 ∷ 5 ∷ 3 ∷ 4 ∷ 2 ∷ 2 ∷ 4 ∷ 4 ∷ 8 ∷ 8 ∷ 2 ∷ 4 ∷ 2 ∷ 2 ∷ 2 ∷ []) kind 0
+
+-- the longest record has nine bytes; after the bytes of a shorter one stand zeros
+abbrev pub nine : List ℕ → List ℕ
+nine r =
+    byte r 0 ∷ byte r 1 ∷ byte r 2 ∷ byte r 3 ∷ byte r 4 ∷ byte r 5 ∷ byte r 6 ∷ byte r 7 ∷ byte r 8 ∷ []
+
+-- numbers of 2 and 4 bytes
+abbrev pub half : List ℕ → ℕ → ℕ
+half r at = byte r at + 2 ^ 8 * byte r (at + 1)
+
+abbrev pub word : List ℕ → ℕ → ℕ
+word r at = half r at + 2 ^ 16 * half r (at + 2)
+
+-- "bit 0 S, bit 1 set for 4 machine bytes"
+unfoldable pub form : ℕ → Form
+form bits = record { s = bit 0 bits; wide = bit 1 bits }
+
+unfoldable pub shifted-register : List ℕ → Record
+shifted-register r = ShiftedRegister (record {
+  op = data-op (byte r 1);
+  form = form (byte r 2);
+  rd = byte r 3;
+  rn = byte r 4;
+  rm = byte r 5;
+  shift = shift (byte r 6);
+  amount = byte r 7;
+})
+
+unfoldable pub constant : List ℕ → Record
+constant r = Constant (record {
+  op = data-op (byte r 1);
+  form = form (byte r 2);
+  rd = byte r 3;
+  rn = byte r 4;
+  constant = word r 5;
+})
+
+unfoldable pub register-shift : List ℕ → Record
+register-shift r = RegisterShift (record {
+  shift = shift (byte r 1);
+  form = form (byte r 2);
+  rd = byte r 3;
+  rn = byte r 4;
+  rs = byte r 5;
+})
+
+unfoldable pub add-number : List ℕ → Record
+add-number r = AddNumber (record {
+  op = add-op (byte r 1);
+  form = form (byte r 2);
+  rd = byte r 3;
+  rn = byte r 4;
+  number = half r 5;
+})
+
+unfoldable pub move-number : List ℕ → Record
+move-number r = MoveNumber (record {
+  op = move-op (byte r 1);
+  form = form (byte r 2);
+  rd = byte r 3;
+  number = half r 4;
+})
+
+unfoldable pub turn : List ℕ → Record
+turn r = Turn (record {
+  op = turn-op (byte r 1);
+  form = form (byte r 2);
+  rd = byte r 3;
+  rm = byte r 4;
+})
+
+unfoldable pub multiply : List ℕ → Record
+multiply r = Multiply (record {
+  op = multiply-op (byte r 1);
+  form = form (byte r 2);
+  rd = byte r 3;
+  rn = byte r 4;
+  rm = byte r 5;
+  ra = byte r 6;
+})
+
+unfoldable pub long-multiply : List ℕ → Record
+long-multiply r = LongMultiply (record {
+  op = long-op (byte r 1);
+  form = form (byte r 2);
+  low = byte r 3;
+  high = byte r 4;
+  rn = byte r 5;
+  rm = byte r 6;
+})
+
+unfoldable pub divide : List ℕ → Record
+divide r = Divide (record {
+  op = divide-op (byte r 1);
+  form = form (byte r 2);
+  rd = byte r 3;
+  rn = byte r 4;
+  rm = byte r 5;
+})
+
+unfoldable pub saturate : List ℕ → Record
+saturate r = Saturate (record {
+  op = saturate-op (byte r 1);
+  form = form (byte r 2);
+  rd = byte r 3;
+  bits = byte r 4;
+  rm = byte r 5;
+  shift = shift (byte r 6);
+  amount = byte r 7;
+})
+
+unfoldable pub bit-field : List ℕ → Record
+bit-field r = BitField (record {
+  op = field-op (byte r 1);
+  form = form (byte r 2);
+  rd = byte r 3;
+  rn = byte r 4;
+  lsb = byte r 5;
+  width = byte r 6;
+})
+
+unfoldable pub extend : List ℕ → Record
+extend r = Extend (record {
+  op = extend-op (byte r 1);
+  form = form (byte r 2);
+  rd = byte r 3;
+  rm = byte r 4;
+  rotation = byte r 5;
+})
+
+unfoldable pub access : List ℕ → Record
+access r = Access (record {
+  op = access-op (byte r 1);
+  form = form (byte r 2);
+  rt = byte r 3;
+  rn = byte r 4;
+  mode = mode (byte r 5);
+  offset = signed-in 16 (half r 6);
+})
+
+unfoldable pub indexed-access : List ℕ → Record
+indexed-access r = IndexedAccess (record {
+  op = access-op (byte r 1);
+  form = form (byte r 2);
+  rt = byte r 3;
+  rn = byte r 4;
+  rm = byte r 5;
+  amount = byte r 6;
+})
+
+unfoldable pub dual-access : List ℕ → Record
+dual-access r = DualAccess (record {
+  op = dual-op (byte r 1);
+  form = form (byte r 2);
+  rt = byte r 3;
+  rt2 = byte r 4;
+  rn = byte r 5;
+  mode = mode (byte r 6);
+  offset = signed-in 16 (half r 7);
+})
+
+unfoldable pub multiple-access : List ℕ → Record
+multiple-access r = MultipleAccess (record {
+  op = multiple-op (byte r 1);
+  form = form (byte r 2);
+  rn = byte r 3;
+  writeback = bit 0 (byte r 4);
+  list = half r 5;
+})
+
+unfoldable pub branch : List ℕ → Record
+branch r = Branch (record {
+  op = branch-op (byte r 1);
+  form = form (byte r 2);
+  condition = byte r 3;
+  offset = signed (word r 4);
+})
+
+unfoldable pub register-branch : List ℕ → Record
+register-branch r = RegisterBranch (record {
+  op = register-op (byte r 1);
+  form = form (byte r 2);
+  rm = byte r 3;
+})
+
+unfoldable pub compare-branch : List ℕ → Record
+compare-branch r = CompareBranch (record {
+  op = compare-op (byte r 1);
+  form = form (byte r 2);
+  rn = byte r 3;
+  offset = byte r 4;
+})
+
+unfoldable pub if-then : List ℕ → Record
+if-then r = IfThen (record {
+  form = form (byte r 1);
+  condition = byte r 2;
+  count = byte r 3;
+  elses = byte r 4;
+})
+
+abbrev pub nop : List ℕ → Record
+nop r = Nop (form (byte r 1))
+
+-- the record that the bytes r are, by their kind
+unfoldable pub record-of : List ℕ → Record
+record-of r =
+    getD
+    (nop ∷ shifted-register ∷ constant ∷ register-shift ∷ add-number ∷ move-number ∷ turn ∷ multiply ∷ long-multiply ∷ divide ∷ saturate ∷ bit-field ∷ extend ∷ access ∷ indexed-access ∷ dual-access ∷ multiple-access ∷ branch ∷ register-branch ∷ compare-branch ∷ if-then ∷ [])
+    (byte r 0) nop r
