@@ -11,12 +11,18 @@ use Rattle.record.specs.declared.Record.{Record}
 use Rattle.record.specs.declared.Record.the-variants.{ShiftedRegister, Constant, RegisterShift, AddNumber, MoveNumber, Turn, Multiply, LongMultiply, Divide, Saturate, BitField, Extend, Access, IndexedAccess, DualAccess, MultipleAccess, Branch, RegisterBranch, CompareBranch, IfThen, Nop}
 
 -- the bytes of a record of each kind, its kind byte included; 0: there is no such kind
-abbrev pub listing-length : ℕ → ℕ
-listing-length kind = getD (0 ∷ 8 ∷ 9 ∷ 6 ∷ 7 ∷ 6 ∷ 5 ∷ 7 ∷ 7 ∷ 6 ∷ 8 ∷ 7 ∷ 6 ∷ 8 ∷ 7 ∷ 9 ∷ 7 ∷ 8 ∷ 4 ∷ 5 ∷ 5 ∷ 2 ∷ []) kind 0
+abbrev pub lengths : List ℕ
+lengths = 0 ∷ 8 ∷ 9 ∷ 6 ∷ 7 ∷ 6 ∷ 5 ∷ 7 ∷ 7 ∷ 6 ∷ 8 ∷ 7 ∷ 6 ∷ 8 ∷ 7 ∷ 9 ∷ 7 ∷ 8 ∷ 4 ∷ 5 ∷ 5 ∷ 2 ∷ []
+
+unfoldable pub listing-length : ℕ → ℕ
+listing-length kind = getD lengths kind 0
 
 -- the names in each row of the table, which its second byte counts
-abbrev pub names : ℕ → ℕ
-names kind = getD (0 ∷ 16 ∷ 16 ∷ 4 ∷ 2 ∷ 2 ∷ 5 ∷ 3 ∷ 4 ∷ 2 ∷ 2 ∷ 4 ∷ 4 ∷ 8 ∷ 8 ∷ 2 ∷ 4 ∷ 2 ∷ 2 ∷ 2 ∷ []) kind 0
+abbrev pub rows : List ℕ
+rows = 0 ∷ 16 ∷ 16 ∷ 4 ∷ 2 ∷ 2 ∷ 5 ∷ 3 ∷ 4 ∷ 2 ∷ 2 ∷ 4 ∷ 4 ∷ 8 ∷ 8 ∷ 2 ∷ 4 ∷ 2 ∷ 2 ∷ 2 ∷ []
+
+unfoldable pub names : ℕ → ℕ
+names kind = getD rows kind 0
 
 -- the longest record has nine bytes; after the bytes of a shorter one stand zeros
 abbrev pub nine : List ℕ → List ℕ
@@ -221,9 +227,11 @@ if-then r = IfThen (record {
 abbrev pub nop : List ℕ → Record
 nop r = Nop (form (byte r 1))
 
+-- how each kind is read
+abbrev pub readings : List (List ℕ → Record)
+readings =
+    nop ∷ shifted-register ∷ constant ∷ register-shift ∷ add-number ∷ move-number ∷ turn ∷ multiply ∷ long-multiply ∷ divide ∷ saturate ∷ bit-field ∷ extend ∷ access ∷ indexed-access ∷ dual-access ∷ multiple-access ∷ branch ∷ register-branch ∷ compare-branch ∷ if-then ∷ []
+
 -- the record that the bytes r are, by their kind
 unfoldable pub record-of : List ℕ → Record
-record-of r =
-    getD
-    (nop ∷ shifted-register ∷ constant ∷ register-shift ∷ add-number ∷ move-number ∷ turn ∷ multiply ∷ long-multiply ∷ divide ∷ saturate ∷ bit-field ∷ extend ∷ access ∷ indexed-access ∷ dual-access ∷ multiple-access ∷ branch ∷ register-branch ∷ compare-branch ∷ if-then ∷ [])
-    (byte r 0) nop r
+record-of r = getD readings (byte r 0) nop r

@@ -24,63 +24,53 @@ pub enum ReadAt {
     Nothing,
 }
 
+// By the kind: the bytes of a record, and the names in its row of the table.
+const LENGTHS: [u8; 22] = [
+    0,
+    8,
+    9,
+    6,
+    7,
+    6,
+    5,
+    7,
+    7,
+    6,
+    8,
+    7,
+    6,
+    8,
+    7,
+    9,
+    7,
+    8,
+    4,
+    5,
+    5,
+    2,
+];
+
+const NAMES: [u8; 20] = [0, 16, 16, 4, 2, 2, 5, 3, 4, 2, 2, 4, 4, 8, 8, 2, 4, 2, 2, 2];
+
 // The listing bytes of a kind, 0 of one that there is not.
-pub fn listing_length_of(kind: u8) -> usize
+pub fn listing_length_of(kind: u8) -> u8
     ensures { λ n. ⌜ n ≡ listing-length kind ⌝ }
 {
-    match kind {
-        0 => 0,
-        1 => 8,
-        2 => 9,
-        3 => 6,
-        4 => 7,
-        5 => 6,
-        6 => 5,
-        7 => 7,
-        8 => 7,
-        9 => 6,
-        10 => 8,
-        11 => 7,
-        12 => 6,
-        13 => 8,
-        14 => 7,
-        15 => 9,
-        16 => 7,
-        17 => 8,
-        18 => 4,
-        19 => 5,
-        20 => 5,
-        21 => 2,
-        _ => 0,
+    let at = kind as usize;
+    if at < 22 {
+        return LENGTHS[at];
     }
+    0
 }
 
 fn names_of(kind: u8) -> u8
     ensures { λ n. ⌜ n ≡ names kind ⌝ }
 {
-    match kind {
-        0 => 0,
-        1 => 16,
-        2 => 16,
-        3 => 4,
-        4 => 2,
-        5 => 2,
-        6 => 5,
-        7 => 3,
-        8 => 4,
-        9 => 2,
-        10 => 2,
-        11 => 4,
-        12 => 4,
-        13 => 8,
-        14 => 8,
-        15 => 2,
-        16 => 4,
-        17 => 2,
-        18 => 2,
-        19 => 2,
-        _ => 0,
+    let at = kind as usize;
+    if at < 20 {
+        return NAMES[at];
     }
+    0
 }
 
 // The bytes of a record, and zeros after them.
@@ -131,7 +121,7 @@ pub fn read_all(r: &[u8]) -> Read
 {
     let bytes = nine_of(r);
     let size = listing_length_of(bytes[0]);
-    let whole = (r.len() == size) & is_named(bytes);
+    let whole = (r.len() == size as usize) & is_named(bytes);
     if whole {
         return judged(kinds::record_from(bytes));
     }
@@ -152,7 +142,7 @@ pub fn read_next(listing: &[u8], place: Place) -> ReadAt
     ensures { λ t. ⌜ t ≡ read-at (now (listing .entry)) (place .0) ⌝ }
 {
     let at = place.0;
-    let size = listing_length_of(little::byte_at(listing, at));
+    let size = listing_length_of(little::byte_at(listing, at)) as usize;
     if listing.len() < at {
         return ReadAt::Nothing;
     }

@@ -1,57 +1,23 @@
-use Rattle.reading.specs.Reading.{named}
+use mathlib.Core.Path.{_≡_}
+use mathlib.Core.Bool.{true, false}
 use borrow.Author.Needs.{needs}
+use lib.Dec.{leb}
+use Rattle.little.specs.Little.{byte}
+use Rattle.reading.specs.Reading.{named}
 use Rattle.reading.proofs.is_named.Statement.{statement}
 use Rattle.reading.proofs.is_named.Tie as tie
-use Rattle.reading.proofs.is_named.Reads as reads
-use Rattle.reading.proofs.is_named.Lts as lts
-use Rattle.reading.proofs.is_coded.Reads as is-coded-reads
-use Rattle.reading.proofs.names_of.Reads as names-of-reads
 
--- src/lib.rt:107:16
-array-read-kind : tie.Need-array-read-kind
-array-read-kind c = search needs
-
--- src/lib.rt:110:16
-array-read-result : tie.Need-array-read-result
-array-read-result c = search needs
-
--- src/lib.rt:110:9
 returns : tie.Need-returns
 unfolding named
-returns c =
-    simp (c .if1 .taken)
+returns c = let t : leb 0x14 (byte (c .before .args .t1) 0) ≡ true = c .if1 .taken in rw t
 
--- src/lib.rt:112:6
-array-read-result-2 : tie.Need-array-read-result-2
-array-read-result-2 c = search needs
-
--- src/lib.rt:112:13
-names-of-requires : tie.Need-names-of-requires
-names-of-requires c κs = search needs
-
--- src/lib.rt:112:32
-array-read-result-3 : tie.Need-array-read-result-3
-array-read-result-3 c = search needs
-
--- src/lib.rt:112:44
-is-coded-requires : tie.Need-is-coded-requires
-is-coded-requires c κs = search needs
-
--- src/lib.rt:104:1
 returns-2 : tie.Need-returns-2
 unfolding named
 returns-2 c =
-    simp (c .is-coded .ensures, c .before .names-of .ensures, c .before .before .if1 .left)
+    let t : leb 0x14 (byte (c .before .before .before .args .t1) 0) ≡ false = c .before .before .if1 .left in
+    rw (t, c .before .names-of .ensures, c .is-coded .ensures)
 
 pub is-named-spec : {M : Type 1} → statement M
 is-named-spec =
     tie.close
-    (tie.spec
-    array-read-kind
-    array-read-result
-    returns
-    array-read-result-2
-    names-of-requires
-    array-read-result-3
-    is-coded-requires
-    returns-2)
+    (tie.spec (λ c. search needs) (λ c. search needs) returns (λ c. search needs) (λ c κs. search needs) (λ c. search needs) (λ c κs. search needs) returns-2)

@@ -1,127 +1,17 @@
-use borrow.Author.Tests.{ne-eqb}
+use mathlib.Core.Path.{sym}
+use lib.ListN.{List·getD-eq-default}
 use borrow.Author.Needs.{needs}
+use Rattle.reading.specs.Kinds.{listing-length, lengths}
 use Rattle.reading.proofs.listing_length_of.Statement.{statement}
 use Rattle.reading.proofs.listing_length_of.Tie as tie
-use Rattle.reading.proofs.listing_length_of.Reads as reads
-use Rattle.reading.proofs.listing_length_of.Lts as lts
 
--- src/lib.rt:28:1
 returns : tie.Need-returns
+unfolding listing-length
 returns c = search needs
 
--- src/lib.rt:28:1
 returns-2 : tie.Need-returns-2
-returns-2 c = search needs
-
--- src/lib.rt:28:1
-returns-3 : tie.Need-returns-3
-returns-3 c = search needs
-
--- src/lib.rt:28:1
-returns-4 : tie.Need-returns-4
-returns-4 c = search needs
-
--- src/lib.rt:28:1
-returns-5 : tie.Need-returns-5
-returns-5 c = search needs
-
--- src/lib.rt:28:1
-returns-6 : tie.Need-returns-6
-returns-6 c = search needs
-
--- src/lib.rt:28:1
-returns-7 : tie.Need-returns-7
-returns-7 c = search needs
-
--- src/lib.rt:28:1
-returns-8 : tie.Need-returns-8
-returns-8 c = search needs
-
--- src/lib.rt:28:1
-returns-9 : tie.Need-returns-9
-returns-9 c = search needs
-
--- src/lib.rt:28:1
-returns-10 : tie.Need-returns-10
-returns-10 c = search needs
-
--- src/lib.rt:28:1
-returns-11 : tie.Need-returns-11
-returns-11 c = search needs
-
--- src/lib.rt:28:1
-returns-12 : tie.Need-returns-12
-returns-12 c = search needs
-
--- src/lib.rt:28:1
-returns-13 : tie.Need-returns-13
-returns-13 c = search needs
-
--- src/lib.rt:28:1
-returns-14 : tie.Need-returns-14
-returns-14 c = search needs
-
--- src/lib.rt:28:1
-returns-15 : tie.Need-returns-15
-returns-15 c = search needs
-
--- src/lib.rt:28:1
-returns-16 : tie.Need-returns-16
-returns-16 c = search needs
-
--- src/lib.rt:28:1
-returns-17 : tie.Need-returns-17
-returns-17 c = search needs
-
--- src/lib.rt:28:1
-returns-18 : tie.Need-returns-18
-returns-18 c = search needs
-
--- src/lib.rt:28:1
-returns-19 : tie.Need-returns-19
-returns-19 c = search needs
-
--- src/lib.rt:28:1
-returns-20 : tie.Need-returns-20
-returns-20 c = search needs
-
--- src/lib.rt:28:1
-returns-21 : tie.Need-returns-21
-returns-21 c = search needs
-
--- src/lib.rt:28:1
-returns-22 : tie.Need-returns-22
-returns-22 c = search needs
-
--- src/lib.rt:28:1
-returns-23 : tie.Need-returns-23
-returns-23 c =
-    simp (ne-eqb _ _ (c .match .rest .1), ne-eqb _ _ (c .match .rest .0 .1), ne-eqb _ _ (c .match .rest .0 .0 .1), ne-eqb _ _ (c .match .rest .0 .0 .0 .1), ne-eqb _ _ (c .match .rest .0 .0 .0 .0 .1), ne-eqb _ _ (c .match .rest .0 .0 .0 .0 .0 .1), ne-eqb _ _ (c .match .rest .0 .0 .0 .0 .0 .0 .1), ne-eqb _ _ (c .match .rest .0 .0 .0 .0 .0 .0 .0 .1), ne-eqb _ _ (c .match .rest .0 .0 .0 .0 .0 .0 .0 .0 .1), ne-eqb _ _ (c .match .rest .0 .0 .0 .0 .0 .0 .0 .0 .0 .1), ne-eqb _ _ (c .match .rest .0 .0 .0 .0 .0 .0 .0 .0 .0 .0 .1), ne-eqb _ _ (c .match .rest .0 .0 .0 .0 .0 .0 .0 .0 .0 .0 .0 .1), ne-eqb _ _ (c .match .rest .0 .0 .0 .0 .0 .0 .0 .0 .0 .0 .0 .0 .1), ne-eqb _ _ (c .match .rest .0 .0 .0 .0 .0 .0 .0 .0 .0 .0 .0 .0 .0 .1), ne-eqb _ _ (c .match .rest .0 .0 .0 .0 .0 .0 .0 .0 .0 .0 .0 .0 .0 .0 .1), ne-eqb _ _ (c .match .rest .0 .0 .0 .0 .0 .0 .0 .0 .0 .0 .0 .0 .0 .0 .0 .1), ne-eqb _ _ (c .match .rest .0 .0 .0 .0 .0 .0 .0 .0 .0 .0 .0 .0 .0 .0 .0 .0 .1), ne-eqb _ _ (c .match .rest .0 .0 .0 .0 .0 .0 .0 .0 .0 .0 .0 .0 .0 .0 .0 .0 .0 .1), ne-eqb _ _ (c .match .rest .0 .0 .0 .0 .0 .0 .0 .0 .0 .0 .0 .0 .0 .0 .0 .0 .0 .0 .1), ne-eqb _ _ (c .match .rest .0 .0 .0 .0 .0 .0 .0 .0 .0 .0 .0 .0 .0 .0 .0 .0 .0 .0 .0 .1), ne-eqb _ _ (c .match .rest .0 .0 .0 .0 .0 .0 .0 .0 .0 .0 .0 .0 .0 .0 .0 .0 .0 .0 .0 .0 .1), ne-eqb _ _ (c .match .rest .0 .0 .0 .0 .0 .0 .0 .0 .0 .0 .0 .0 .0 .0 .0 .0 .0 .0 .0 .0 .0 .1))
+unfolding listing-length
+returns-2 c = sym (List·getD-eq-default lengths 0 (c .if1 .left))
 
 pub listing-length-of-spec : {M : Type 1} → statement M
-listing-length-of-spec =
-    tie.close
-    (tie.spec
-    returns
-    returns-2
-    returns-3
-    returns-4
-    returns-5
-    returns-6
-    returns-7
-    returns-8
-    returns-9
-    returns-10
-    returns-11
-    returns-12
-    returns-13
-    returns-14
-    returns-15
-    returns-16
-    returns-17
-    returns-18
-    returns-19
-    returns-20
-    returns-21
-    returns-22
-    returns-23)
+listing-length-of-spec = tie.close (tie.spec (λ c. search needs) returns returns-2)

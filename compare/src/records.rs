@@ -1,0 +1,48 @@
+//! Records: the number that judges them, their lengths, and where they go.
+
+mod answers;
+mod numbers;
+mod random;
+mod stock;
+mod sweeps;
+mod tally;
+
+use answers::{Comparison, Outcome};
+
+pub fn run() -> Result<String, String> {
+    let mut comparison = Comparison::new();
+    let stock = stock::stock();
+    good(&stock)?;
+    sweep(&mut comparison, &stock)?;
+    let tally = comparison.tally();
+    match tally.gaps() {
+        gaps if gaps.is_empty() => {
+            Ok(format!("{tally}records: {} compared, no difference", tally.strings()))
+        }
+        gaps => Err(format!("{tally}records: not as paper 01 has it: {}", gaps.join("; "))),
+    }
+}
+
+/// The sweeps go around the stock, so a record in it that is not done would make them poorer.
+fn good(stock: &[Vec<u8>]) -> Outcome {
+    match stock.iter().find(|record| second::record::judge(record, 0) != 0) {
+        Some(record) => Err(format!("stock: {record:02X?} is no good record")),
+        None => Ok(()),
+    }
+}
+
+fn sweep(comparison: &mut Comparison, stock: &[Vec<u8>]) -> Outcome {
+    let samples = stock::samples(stock);
+    sweeps::single_bytes(comparison, stock)?;
+    sweeps::lengths(comparison, stock)?;
+    sweeps::two_bytes(comparison, &samples)?;
+    sweeps::kinds_and_ops(comparison, &samples)?;
+    sweeps::one_listing(comparison, stock)?;
+    numbers::constants(comparison)?;
+    numbers::halves(comparison)?;
+    numbers::offsets(comparison)?;
+    numbers::lists(comparison)?;
+    numbers::branches(comparison)?;
+    numbers::small(comparison)?;
+    random::records(comparison)
+}

@@ -1,0 +1,126 @@
+//! How often each answer was compared, and whether that is all that paper 01 has.
+
+use std::fmt;
+
+/// "Names in a row are ops 0, 1, 2 and on": how many a kind has, from kind 01. Kinds 14 and 15 have
+/// no op byte and count as one op.
+const OPS: [u8; KINDS] = [16, 16, 4, 2, 2, 5, 3, 4, 2, 2, 4, 4, 8, 8, 2, 4, 2, 2, 2, 1, 1];
+const KINDS: usize = 21;
+const NUMBERS: [usize; 4] = [0, 2, 3, 4];
+/// B and BL, CBZ and CBNZ, and NOP stand nowhere under "Restricted"; CBZ has no R13 or R15 to name.
+const NEVER_RESTRICTED: [usize; 3] = [0x11, 0x13, 0x15];
+/// ADD and MOV to R15, MULS, LDR to R15 by two kinds, loads of 15, branches, IT. R15 as Rd of 02 and
+/// 04, and as Rt of 0F, is restricted, and 3 is lower than 4.
+const HAS_SPOTS: [usize; 9] = [0x01, 0x07, 0x0D, 0x0E, 0x10, 0x11, 0x12, 0x13, 0x14];
+
+/// Row 0 is for bytes that start with no kind.
+pub struct Tally {
+    strings: u64,
+    judged: [[u64; 5]; KINDS + 1],
+    /// The forms of the records done, as a bit each, by kind and op.
+    done: [[u8; 16]; KINDS + 1],
+    ways: [u64; 4],
+    /// By machine bytes, 0 for no record.
+    measured: [u64; 5],
+}
+
+impl Tally {
+    pub fn new() -> Tally {
+        let (judged, done) = ([[0; 5]; KINDS + 1], [[0; 16]; KINDS + 1]);
+        Tally { strings: 0, judged, done, ways: [0; 4], measured: [0; 5] }
+    }
+
+    pub fn string(&mut self) {
+        self.strings += 1;
+    }
+
+    pub fn strings(&self) -> u64 {
+        self.strings
+    }
+
+    pub fn judged(&mut self, bytes: &[u8], waiting: u32, number: u32) {
+        let kind = bytes.first().map_or(0, |&kind| usize::from(kind));
+        let row = if kind <= KINDS { kind } else { 0 };
+        self.judged[row][number as usize] += 1;
+        if number == 0 && waiting == 0 {
+            let (op, form) = if kind < 0x14 { (bytes[1], bytes[2]) } else { (0, bytes[1]) };
+            self.done[row][usize::from(op)] |= 1 << form;
+        }
+    }
+
+    pub fn went(&mut self, way: u64) {
+        self.ways[(way & 3) as usize] += 1;
+    }
+
+    pub fn measured(&mut self, measure: u64) {
+        self.measured[(measure >> 32) as usize] += 1;
+    }
+
+    /// Where what occurred is not what paper 01 lets occur, neither more nor less.
+    pub fn gaps(&self) -> Vec<String> {
+        let mut gaps = Vec::new();
+        for kind in 0..=KINDS {
+            for (number, &count) in self.judged[kind].iter().enumerate() {
+                if (count > 0) != possible(kind, number) {
+                    gaps.push(format!("number {number} of kind {kind:02X}: {count} times"));
+                }
+            }
+            for (op, &forms) in self.done[kind].iter().enumerate() {
+                if forms != possible_forms(kind, op) {
+                    gaps.push(format!("forms done of kind {kind:02X}, op {op}: {forms:04b}"));
+                }
+            }
+        }
+        if self.ways.contains(&0) {
+            gaps.push("some way never occurred".to_string());
+        }
+        if [0, 2, 4].iter().any(|&bytes| self.measured[bytes] == 0) {
+            gaps.push("some length never occurred".to_string());
+        }
+        gaps
+    }
+}
+
+fn possible(kind: usize, number: usize) -> bool {
+    match number {
+        0 => kind > 0,
+        2 => true,
+        3 => kind > 0 && !NEVER_RESTRICTED.contains(&kind),
+        4 => HAS_SPOTS.contains(&kind),
+        _ => false,
+    }
+}
+
+/// "S may be 1 only in 01, 02, 03 and MUL"; "for the last four .. S is 1"; "Kinds 12, 13, 14 are 2
+/// machine bytes, BL is 4". Bit 0 is form 0: no S, 2 machine bytes.
+fn possible_forms(kind: usize, op: usize) -> u8 {
+    if kind == 0 || op >= usize::from(OPS[kind - 1]) {
+        return 0;
+    }
+    match (kind, op) {
+        (0x01 | 0x02, 12..=15) => 0b1010,
+        (0x01..=0x03, _) | (0x07, 0) => 0b1111,
+        (0x11, 1) => 0b0100,
+        (0x12..=0x14, _) => 0b0001,
+        _ => 0b0101,
+    }
+}
+
+impl fmt::Display for Tally {
+    fn fmt(&self, f: &mut fmt::Formatter<'_>) -> fmt::Result {
+        writeln!(f, "judged       number 0     number 2     number 3     number 4")?;
+        for kind in (1..=KINDS).chain([0]) {
+            let name = if kind == 0 { "none".to_string() } else { format!("{kind:02X}") };
+            row(f, &name, NUMBERS.map(|number| self.judged[kind][number]))?;
+        }
+        row(f, "all", NUMBERS.map(|number| self.judged.iter().map(|row| row[number]).sum()))?;
+        let [next, direct, taken, none] = self.ways;
+        writeln!(f, "ways: {next} next, {direct} direct, {taken} taken, {none} no record")?;
+        let [none, _, two, _, four] = self.measured;
+        writeln!(f, "measures: {two} of 2 bytes, {four} of 4 bytes, {none} no record")
+    }
+}
+
+fn row(f: &mut fmt::Formatter<'_>, name: &str, [a, b, c, d]: [u64; 4]) -> fmt::Result {
+    writeln!(f, "{name:8} {a:12} {b:12} {c:12} {d:12}")
+}

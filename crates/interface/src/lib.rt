@@ -1,0 +1,55 @@
+// The C functions of the stepper, on numbers and byte slices: include/simbhoket.h declares them.
+
+ghost use mathlib.Core.Path.{_≡_};
+ghost use Rattle.little.specs.Little.{byte};
+ghost use Rattle.judge.specs.Judge.{judged};
+ghost use Rattle.reading.specs.Reading.{read-one, read-at};
+ghost use Rattle.interface.specs.Interface.{pair, measured, way-number, way-read};
+use flow::Way;
+use reading::Place;
+use reading::Read;
+use reading::ReadAt;
+
+#[no_mangle]
+pub extern "C" fn simbhoket_judge(r: &[u8], waiting: u32) -> u32
+    ensures { λ n. ⌜ n ≡ judged (read-one (now (r .entry))) waiting ⌝ }
+{
+    judge::judge(r, waiting)
+}
+
+#[no_mangle]
+pub extern "C" fn simbhoket_measure(listing: &[u8], place: usize) -> u64
+    ensures { λ n. ⌜ n ≡ measured (read-at (now (listing .entry)) place) (byte (now (listing .entry)) place) ⌝ }
+{
+    let ReadAt::Found(found, _) = reading::read_next(listing, Place(place)) else {
+        return 0;
+    };
+    let size = reading::listing_length_of(little::byte_at(listing, place));
+    pair_of(size as u32, flow::machine_length_of(found))
+}
+
+#[no_mangle]
+pub extern "C" fn simbhoket_way(r: &[u8], address: u32) -> u64
+    ensures { λ n. ⌜ n ≡ way-read (read-one (now (r .entry))) address ⌝ }
+{
+    let Read::Is(found) = reading::read_all(r) else {
+        return 3;
+    };
+    way_number_of(flow::way_of(found), address)
+}
+
+fn way_number_of(w: Way, address: u32) -> u64
+    ensures { λ n. ⌜ n ≡ way-number w address ⌝ }
+{
+    match w {
+        Way::Next => 0,
+        Way::Direct(_) => pair_of(1, flow::target_of(address, w)),
+        Way::Taken => 2,
+    }
+}
+
+fn pair_of(low: u32, high: u32) -> u64
+    ensures { λ n. ⌜ n ≡ pair low high ⌝ }
+{
+    (high as u64) << 32 | low as u64
+}
