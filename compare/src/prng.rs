@@ -20,7 +20,7 @@ impl Prng {
 
     /// A number below the bound, which is not 0.
     pub fn below(&mut self, bound: u32) -> u32 {
-        (u64::from(self.word()) * u64::from(bound) >> 32) as u32
+        ((u64::from(self.word()) * u64::from(bound)) >> 32) as u32
     }
 
     pub fn pick<T: Copy>(&mut self, from: &[T]) -> T {

@@ -17,17 +17,17 @@ pub fn stock() -> Stock {
     stock
 }
 
-/// The first record of every kind and op, with and without S, and with R13 and R15 at each place that
-/// the stock has them.
+/// The first record of every kind and op, with and without S, in each mode, with and without
+/// write-back, and with R13 and R15 wherever the stock has them.
 pub fn samples(stock: &[Vec<u8>]) -> Stock {
     let mut seen = BTreeSet::new();
     stock.iter().filter(|record| seen.insert(sort(record))).cloned().collect()
 }
 
-fn sort(record: &[u8]) -> (u8, u8, u8, u8) {
+fn sort(record: &[u8]) -> (u8, u8, u8, u8, u8) {
     // IT and NOP have no op and no registers
     if record[0] >= 0x14 {
-        return (record[0], 0, 0, 0);
+        return (record[0], 0, 0, 0, 0);
     }
     let registers = &record[3..record.len().min(6)];
     let special = registers.iter().fold(0, |special, register| match register {
@@ -35,7 +35,13 @@ fn sort(record: &[u8]) -> (u8, u8, u8, u8) {
         15 => special * 3 + 2,
         _ => special * 3,
     });
-    (record[0], record[1], record[2] & 1, special)
+    let mode = match record[0] {
+        0x0D => record[5],
+        0x0F => record[6],
+        0x10 => record[4],
+        _ => 0,
+    };
+    (record[0], record[1], record[2] & 1, mode, special)
 }
 
 /// The length bit of a form, set at every other turn, so that both lengths come up beside whatever

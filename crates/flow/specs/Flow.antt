@@ -6,7 +6,8 @@ use lib.IntN.{pos}
 use Rattle.word.specs.Choice.{if_then_else_}
 use Rattle.address.specs.Address.{moved}
 use Rattle.register_list.specs.List.{member}
-use Rattle.record.specs.Op.{is-bl, is-mul, loads-many}
+use Rattle.record.specs.Op.{data-code, is-bl, is-ldr, is-mul, loads-many}
+use Rattle.record.specs.declared.op.DataOp.{DataOp}
 use Rattle.record.specs.declared.Record.{Record}
 use Rattle.record.specs.declared.Record.the-variants.{ShiftedRegister, Constant, RegisterShift, AddNumber, MoveNumber, Turn, Multiply, LongMultiply, Divide, Saturate, BitField, Extend, Access, IndexedAccess, DualAccess, MultipleAccess, Branch, RegisterBranch, CompareBranch, IfThen, Nop}
 use Rattle.waiting.specs.declared.Waiting.{Waiting}
@@ -41,14 +42,18 @@ wide (Nop form) = form .wide
 unfoldable pub machine-length : Record → ℕ
 machine-length r = if wide r then 4 else 2
 
+-- "MOV or ADD with Rd 15"
+abbrev pub to-pc : DataOp → ℕ → Bool
+to-pc op rd = eqb rd 15 && (eqb (data-code op) 0 || eqb (data-code op) 10)
+
 abbrev pub taken-if : Bool → Way
 taken-if test = if test then Taken else Next
 
 -- Where a record goes: on to the next; directly, by an offset ("B, BL, CBZ and CBNZ are direct"); or where a register or memory says
 -- ("BX, BLX, MOV or ADD with Rd 15, LDR with Rt 15, or a load of kind 10 with 15 in its list").
 unfoldable pub way : Record → Way
-way (ShiftedRegister d) = taken-if (eqb (d .rd) 15)
-way (Constant d) = Next
+way (ShiftedRegister d) = taken-if (to-pc (d .op) (d .rd))
+way (Constant d) = taken-if (to-pc (d .op) (d .rd))
 way (RegisterShift d) = Next
 way (AddNumber d) = Next
 way (MoveNumber d) = Next
@@ -59,8 +64,8 @@ way (Divide d) = Next
 way (Saturate d) = Next
 way (BitField d) = Next
 way (Extend d) = Next
-way (Access d) = taken-if (eqb (d .rt) 15)
-way (IndexedAccess d) = taken-if (eqb (d .rt) 15)
+way (Access d) = taken-if (is-ldr (d .op) && eqb (d .rt) 15)
+way (IndexedAccess d) = taken-if (is-ldr (d .op) && eqb (d .rt) 15)
 way (DualAccess d) = Next
 way (MultipleAccess d) = taken-if (loads-many (d .op) && member (d .list) 15)
 way (Branch d) = Direct (d .offset)
@@ -75,7 +80,7 @@ target address Next = 0
 target address (Direct offset) = moved ((address + 4) % 2 ^ 32) offset
 target address Taken = 0
 
--- "Any record that branches, or has R15 as Rd, Rt or in a load's list"
+-- "Any record that branches, or has R15 as Rd, Rt or in a load's list": any other with R15 as Rd or Rt is restricted
 unfoldable pub leaves : Way → Bool
 leaves Next = false
 leaves (Direct offset) = true

@@ -1,8 +1,9 @@
 // What a record does to the way through a listing.
 
 ghost use mathlib.Core.Path.{_≡_};
-ghost use Rattle.flow.specs.Flow.{wide, machine-length, taken-if, way, target, leaves, alone, misplaced, after};
+ghost use Rattle.flow.specs.Flow.{wide, machine-length, to-pc, taken-if, way, target, leaves, alone, misplaced, after};
 use record::Record;
+use record::op::DataOp;
 use waiting::Waiting;
 
 // Where a record goes.
@@ -57,8 +58,14 @@ pub fn way_of(r: Record) -> Way
     ensures { λ t. ⌜ t ≡ way r ⌝ }
 {
     match r {
-        Record::ShiftedRegister(d) => taken_if_of(d.rd == 15),
-        Record::Constant(_) => Way::Next,
+        Record::ShiftedRegister(d) => {
+            let op = d.op;
+            taken_if_of(to_pc_of(op, d.rd))
+        }
+        Record::Constant(d) => {
+            let op = d.op;
+            taken_if_of(to_pc_of(op, d.rd))
+        }
         Record::RegisterShift(_) => Way::Next,
         Record::AddNumber(_) => Way::Next,
         Record::MoveNumber(_) => Way::Next,
@@ -69,8 +76,14 @@ pub fn way_of(r: Record) -> Way
         Record::Saturate(_) => Way::Next,
         Record::BitField(_) => Way::Next,
         Record::Extend(_) => Way::Next,
-        Record::Access(d) => taken_if_of(d.rt == 15),
-        Record::IndexedAccess(d) => taken_if_of(d.rt == 15),
+        Record::Access(d) => {
+            let op = d.op;
+            taken_if_of(record::op::is_ldr_of(op) & (d.rt == 15))
+        }
+        Record::IndexedAccess(d) => {
+            let op = d.op;
+            taken_if_of(record::op::is_ldr_of(op) & (d.rt == 15))
+        }
         Record::DualAccess(_) => Way::Next,
         Record::MultipleAccess(d) => {
             let op = d.op;
@@ -82,6 +95,13 @@ pub fn way_of(r: Record) -> Way
         Record::IfThen(_) => Way::Next,
         Record::Nop(_) => Way::Next,
     }
+}
+
+fn to_pc_of(op: DataOp, rd: u8) -> bool
+    ensures { λ t. ⌜ t ≡ to-pc op rd ⌝ }
+{
+    let code = record::op::data_code_of(op);
+    (rd == 15) & ((code == 0) | (code == 10))
 }
 
 fn taken_if_of(test: bool) -> Way

@@ -157,3 +157,13 @@ abbrev pub is-offset : Mode → Bool
 is-offset Offset = true
 is-offset PreIndexed = false
 is-offset PostIndexed = false
+
+abbrev pub is-ldr : AccessOp → Bool
+is-ldr Ldr = true
+is-ldr Ldrb = false
+is-ldr Ldrh = false
+is-ldr Ldrsb = false
+is-ldr Ldrsh = false
+is-ldr Str = false
+is-ldr Strb = false
+is-ldr Strh = false

@@ -1,7 +1,7 @@
 // The operations, shifts and modes that a record names, each by the number that stands for it.
 
 ghost use mathlib.Core.Path.{_≡_};
-ghost use Rattle.record.specs.Op.{data-op, data-code, is-lsl, is-mul, loads, loads-dual, loads-many, is-bl, is-blx, is-offset, shift, add-op, move-op, turn-op, multiply-op, long-op, divide-op, saturate-op, field-op, extend-op, access-op, dual-op, multiple-op, branch-op, register-op, compare-op, mode};
+ghost use Rattle.record.specs.Op.{data-op, data-code, is-lsl, is-mul, loads, loads-dual, loads-many, is-bl, is-blx, is-offset, is-ldr, shift, add-op, move-op, turn-op, multiply-op, long-op, divide-op, saturate-op, field-op, extend-op, access-op, dual-op, multiple-op, branch-op, register-op, compare-op, mode};
 
 // The operations of kinds 01 and 02.
 pub enum DataOp {
@@ -449,5 +449,20 @@ pub fn is_offset_of(op: Mode) -> bool
         Mode::Offset => true,
         Mode::PreIndexed => false,
         Mode::PostIndexed => false,
+    }
+}
+
+pub fn is_ldr_of(op: AccessOp) -> bool
+    ensures { λ r. ⌜ r ≡ is-ldr op ⌝ }
+{
+    match op {
+        AccessOp::Ldr => true,
+        AccessOp::Ldrb => false,
+        AccessOp::Ldrh => false,
+        AccessOp::Ldrsb => false,
+        AccessOp::Ldrsh => false,
+        AccessOp::Str => false,
+        AccessOp::Strb => false,
+        AccessOp::Strh => false,
     }
 }
