@@ -7,7 +7,7 @@ use std::ops::RangeInclusive;
 
 const SEED: u64 = 0x02_0D_10_11;
 const RANDOM: usize = 20_000;
-/// "limits +-1 and +-2", and the next multiple of 4.
+/// From a limit: odd and even neighbours on both sides, and the next multiples of 4.
 const NEAR: RangeInclusive<i32> = -4..=4;
 
 fn half(comparison: &mut Comparison, head: &[u8], number: u16) -> Outcome {

@@ -5,7 +5,7 @@ use Rattle.little.specs.Little.{byte}
 use Rattle.flow.specs.Flow.{machine-length, way, target}
 use Rattle.flow.specs.declared.Way.{Way}
 use Rattle.flow.specs.declared.Way.the-variants.{Next, Direct, Taken}
-use Rattle.reading.specs.Kinds.{listing-length}
+use Rattle.kinds.specs.Kinds.{listing-length}
 use Rattle.reading.specs.declared.Read.{Read}
 use Rattle.reading.specs.declared.Read.the-variants.{Is, Refused}
 use Rattle.reading.specs.declared.ReadAt.{ReadAt}

@@ -24,7 +24,7 @@ pub extern "C" fn simbhoket_measure(listing: &[u8], place: usize) -> u64
     let ReadAt::Found(found, _) = reading::read_next(listing, Place(place)) else {
         return 0;
     };
-    let size = reading::listing_length_of(little::byte_at(listing, place));
+    let size = kinds::listing_length_of(little::byte_at(listing, place));
     pair_of(size as u32, flow::machine_length_of(found))
 }
 

@@ -6,8 +6,8 @@ use mathlib.Core.List.{List, [], _∷_, map}
 use lib.Dec.{eqb}
 use lib.ListN.{length, getD}
 use Rattle.little.specs.Little.{byte}
-use Rattle.reading.specs.Kinds.{nine, listing-length, readings, nop, record-of}
-use Rattle.reading.specs.Kinds.{shifted-register, constant, register-shift, add-number, move-number, turn, multiply, long-multiply, divide, saturate, bit-field, extend, access, indexed-access, dual-access, multiple-access, branch, register-branch, compare-branch, if-then}
+use Rattle.kinds.specs.Kinds.{nine, listing-length, readings, nop, record-of}
+use Rattle.kinds.specs.Kinds.{shifted-register, constant, register-shift, add-number, move-number, turn, multiply, long-multiply, divide, saturate, bit-field, extend, access, indexed-access, dual-access, multiple-access, branch, register-branch, compare-branch, if-then}
 use Rattle.reading.specs.Reading.{coded, named}
 
 -- a function of a table applied is an entry of the table of its values

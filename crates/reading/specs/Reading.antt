@@ -7,7 +7,7 @@ use lib.ListN.{length, take, drop}
 use Rattle.word.specs.Choice.{if_then_else_}
 use Rattle.little.specs.Little.{byte}
 use Rattle.fields.specs.Fields.{well-formed}
-use Rattle.reading.specs.Kinds.{listing-length, names, record-of}
+use Rattle.kinds.specs.Kinds.{listing-length, names, record-of}
 use Rattle.reading.specs.declared.Place.{Place}
 use Rattle.reading.specs.declared.Read.{Read}
 use Rattle.reading.specs.declared.Read.the-variants.{Is, Refused}

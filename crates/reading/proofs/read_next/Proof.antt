@@ -5,7 +5,7 @@ use lib.ListN.{take, drop, length}
 use borrow.Author.Needs.{needs}
 use borrow.Author.Tests.{lt-leb, le-leb}
 use Rattle.little.specs.Little.{byte}
-use Rattle.reading.specs.Kinds.{listing-length}
+use Rattle.kinds.specs.Kinds.{listing-length}
 use Rattle.reading.specs.Reading.{read-at, read-one, found-at}
 use Rattle.reading.proofs.read_next.Statement.{statement}
 use Rattle.reading.proofs.read_next.Tie as tie
