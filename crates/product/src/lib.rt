@@ -78,14 +78,5 @@ fn product(x: u32, y: u32) -> u64
 fn signed_product(x: u32, y: u32) -> u64
     ensures { λ r. ⌜ r ≡ wrapped 64 (signed x *ℤ signed y) ⌝ }
 {
-    bits_of(word::signed_of(x) as i64 * word::signed_of(y) as i64)
-}
-
-fn bits_of(number: i64) -> u64
-    ensures { λ r. ⌜ r ≡ wrapped 64 number ⌝ }
-{
-    if number < 0 {
-        return !((-1 - number) as u64);
-    }
-    number as u64
+    word::unsigned_long_of(word::signed_of(x) as i64 * word::signed_of(y) as i64)
 }

@@ -51,8 +51,14 @@ pub fn signed_half_of(x: u16) -> i16
 pub fn unsigned_of(number: i32) -> u32
     ensures { λ r. ⌜ r ≡ wrapped 32 number ⌝ }
 {
+    (unsigned_long_of(number as i64) & 0xffff_ffff) as u32
+}
+
+pub fn unsigned_long_of(number: i64) -> u64
+    ensures { λ r. ⌜ r ≡ wrapped 64 number ⌝ }
+{
     if number < 0 {
-        return !((-1 - number) as u32);
+        return !((-1 - number) as u64);
     }
-    number as u32
+    number as u64
 }

@@ -6,7 +6,7 @@ use Rattle.kinds.proofs.add_number_from.Tie as tie
 returns : tie.Need-returns
 unfolding add-number
 returns c =
-    simp (c .half-of .ensures, c .before .form-of .ensures, c .before .before .add-op-of .ensures)
+    rw (c .half-of .ensures, c .before .form-of .ensures, c .before .before .add-op-of .ensures)
 
 pub add-number-from-spec : {M : Type 1} → statement M
 add-number-from-spec = tie.close (tie.spec (λ c. search needs) (λ c κs. search needs) (λ c. search needs) (λ c κs. search needs) (λ c. search needs) (λ c. search needs) (λ c. search needs) (λ c. search needs) (λ c κs. search needs) returns)

@@ -6,7 +6,7 @@ use Rattle.kinds.proofs.extend_from.Tie as tie
 returns : tie.Need-returns
 unfolding extend
 returns c =
-    simp (c .form-of .ensures, c .before .extend-op-of .ensures)
+    rw (c .form-of .ensures, c .before .extend-op-of .ensures)
 
 pub extend-from-spec : {M : Type 1} → statement M
 extend-from-spec = tie.close (tie.spec (λ c. search needs) (λ c κs. search needs) (λ c. search needs) (λ c κs. search needs) (λ c. search needs) (λ c. search needs) (λ c. search needs) returns)

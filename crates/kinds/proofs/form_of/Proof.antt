@@ -6,7 +6,7 @@ use Rattle.kinds.proofs.form_of.Tie as tie
 returns : tie.Need-returns
 unfolding form
 returns c =
-    simp (c .bit-of2 .ensures, c .before .bit-of .ensures)
+    rw (c .bit-of2 .ensures, c .before .bit-of .ensures)
 
 pub form-of-spec : {M : Type 1} → statement M
 form-of-spec = tie.close (tie.spec (λ c κs. search needs) (λ c κs. search needs) returns)

@@ -6,7 +6,7 @@ use Rattle.kinds.proofs.long_multiply_from.Tie as tie
 returns : tie.Need-returns
 unfolding long-multiply
 returns c =
-    simp (c .form-of .ensures, c .before .long-op-of .ensures)
+    rw (c .form-of .ensures, c .before .long-op-of .ensures)
 
 pub long-multiply-from-spec : {M : Type 1} → statement M
 long-multiply-from-spec = tie.close (tie.spec (λ c. search needs) (λ c κs. search needs) (λ c. search needs) (λ c κs. search needs) (λ c. search needs) (λ c. search needs) (λ c. search needs) (λ c. search needs) returns)

@@ -6,7 +6,7 @@ use Rattle.kinds.proofs.multiply_from.Tie as tie
 returns : tie.Need-returns
 unfolding multiply
 returns c =
-    simp (c .form-of .ensures, c .before .multiply-op-of .ensures)
+    rw (c .form-of .ensures, c .before .multiply-op-of .ensures)
 
 pub multiply-from-spec : {M : Type 1} → statement M
 multiply-from-spec = tie.close (tie.spec (λ c. search needs) (λ c κs. search needs) (λ c. search needs) (λ c κs. search needs) (λ c. search needs) (λ c. search needs) (λ c. search needs) (λ c. search needs) returns)

@@ -9,107 +9,107 @@ use Rattle.kinds.proofs.record_from.Tie as tie
 returns : tie.Need-returns
 unfolding record-of
 returns c =
-    simp (c .form-of .ensures, c .before .match .keys1)
+    rw (c .form-of .ensures, c .before .match .keys1)
 
 returns-2 : tie.Need-returns-2
 unfolding record-of
 returns-2 c =
-    simp (c .shifted-register-from .ensures, c .before .match .keys2)
+    rw (c .shifted-register-from .ensures, c .before .match .keys2)
 
 returns-3 : tie.Need-returns-3
 unfolding record-of
 returns-3 c =
-    simp (c .constant-from .ensures, c .before .match .keys3)
+    rw (c .constant-from .ensures, c .before .match .keys3)
 
 returns-4 : tie.Need-returns-4
 unfolding record-of
 returns-4 c =
-    simp (c .register-shift-from .ensures, c .before .match .keys4)
+    rw (c .register-shift-from .ensures, c .before .match .keys4)
 
 returns-5 : tie.Need-returns-5
 unfolding record-of
 returns-5 c =
-    simp (c .add-number-from .ensures, c .before .match .keys5)
+    rw (c .add-number-from .ensures, c .before .match .keys5)
 
 returns-6 : tie.Need-returns-6
 unfolding record-of
 returns-6 c =
-    simp (c .move-number-from .ensures, c .before .match .keys6)
+    rw (c .move-number-from .ensures, c .before .match .keys6)
 
 returns-7 : tie.Need-returns-7
 unfolding record-of
 returns-7 c =
-    simp (c .turn-from .ensures, c .before .match .keys7)
+    rw (c .turn-from .ensures, c .before .match .keys7)
 
 returns-8 : tie.Need-returns-8
 unfolding record-of
 returns-8 c =
-    simp (c .multiply-from .ensures, c .before .match .keys8)
+    rw (c .multiply-from .ensures, c .before .match .keys8)
 
 returns-9 : tie.Need-returns-9
 unfolding record-of
 returns-9 c =
-    simp (c .long-multiply-from .ensures, c .before .match .keys9)
+    rw (c .long-multiply-from .ensures, c .before .match .keys9)
 
 returns-10 : tie.Need-returns-10
 unfolding record-of
 returns-10 c =
-    simp (c .divide-from .ensures, c .before .match .keys10)
+    rw (c .divide-from .ensures, c .before .match .keys10)
 
 returns-11 : tie.Need-returns-11
 unfolding record-of
 returns-11 c =
-    simp (c .saturate-from .ensures, c .before .match .keys11)
+    rw (c .saturate-from .ensures, c .before .match .keys11)
 
 returns-12 : tie.Need-returns-12
 unfolding record-of
 returns-12 c =
-    simp (c .bit-field-from .ensures, c .before .match .keys12)
+    rw (c .bit-field-from .ensures, c .before .match .keys12)
 
 returns-13 : tie.Need-returns-13
 unfolding record-of
 returns-13 c =
-    simp (c .extend-from .ensures, c .before .match .keys13)
+    rw (c .extend-from .ensures, c .before .match .keys13)
 
 returns-14 : tie.Need-returns-14
 unfolding record-of
 returns-14 c =
-    simp (c .access-from .ensures, c .before .match .keys14)
+    rw (c .access-from .ensures, c .before .match .keys14)
 
 returns-15 : tie.Need-returns-15
 unfolding record-of
 returns-15 c =
-    simp (c .indexed-access-from .ensures, c .before .match .keys15)
+    rw (c .indexed-access-from .ensures, c .before .match .keys15)
 
 returns-16 : tie.Need-returns-16
 unfolding record-of
 returns-16 c =
-    simp (c .dual-access-from .ensures, c .before .match .keys16)
+    rw (c .dual-access-from .ensures, c .before .match .keys16)
 
 returns-17 : tie.Need-returns-17
 unfolding record-of
 returns-17 c =
-    simp (c .multiple-access-from .ensures, c .before .match .keys17)
+    rw (c .multiple-access-from .ensures, c .before .match .keys17)
 
 returns-18 : tie.Need-returns-18
 unfolding record-of
 returns-18 c =
-    simp (c .branch-from .ensures, c .before .match .keys18)
+    rw (c .branch-from .ensures, c .before .match .keys18)
 
 returns-19 : tie.Need-returns-19
 unfolding record-of
 returns-19 c =
-    simp (c .register-branch-from .ensures, c .before .match .keys19)
+    rw (c .register-branch-from .ensures, c .before .match .keys19)
 
 returns-20 : tie.Need-returns-20
 unfolding record-of
 returns-20 c =
-    simp (c .compare-branch-from .ensures, c .before .match .keys20)
+    rw (c .compare-branch-from .ensures, c .before .match .keys20)
 
 returns-21 : tie.Need-returns-21
 unfolding record-of
 returns-21 c =
-    simp (c .if-then-from .ensures, c .before .match .keys21)
+    rw (c .if-then-from .ensures, c .before .match .keys21)
 
 returns-22 : tie.Need-returns-22
 unfolding record-of

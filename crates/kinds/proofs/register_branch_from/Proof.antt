@@ -6,7 +6,7 @@ use Rattle.kinds.proofs.register_branch_from.Tie as tie
 returns : tie.Need-returns
 unfolding register-branch
 returns c =
-    simp (c .form-of .ensures, c .before .register-op-of .ensures)
+    rw (c .form-of .ensures, c .before .register-op-of .ensures)
 
 pub register-branch-from-spec : {M : Type 1} → statement M
 register-branch-from-spec = tie.close (tie.spec (λ c. search needs) (λ c κs. search needs) (λ c. search needs) (λ c κs. search needs) (λ c. search needs) returns)

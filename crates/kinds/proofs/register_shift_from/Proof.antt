@@ -6,7 +6,7 @@ use Rattle.kinds.proofs.register_shift_from.Tie as tie
 returns : tie.Need-returns
 unfolding register-shift
 returns c =
-    simp (c .form-of .ensures, c .before .shift-of .ensures)
+    rw (c .form-of .ensures, c .before .shift-of .ensures)
 
 pub register-shift-from-spec : {M : Type 1} → statement M
 register-shift-from-spec = tie.close (tie.spec (λ c. search needs) (λ c κs. search needs) (λ c. search needs) (λ c κs. search needs) (λ c. search needs) (λ c. search needs) (λ c. search needs) returns)

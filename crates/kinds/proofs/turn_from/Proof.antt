@@ -6,7 +6,7 @@ use Rattle.kinds.proofs.turn_from.Tie as tie
 returns : tie.Need-returns
 unfolding turn
 returns c =
-    simp (c .form-of .ensures, c .before .turn-op-of .ensures)
+    rw (c .form-of .ensures, c .before .turn-op-of .ensures)
 
 pub turn-from-spec : {M : Type 1} → statement M
 turn-from-spec = tie.close (tie.spec (λ c. search needs) (λ c κs. search needs) (λ c. search needs) (λ c κs. search needs) (λ c. search needs) (λ c. search needs) returns)

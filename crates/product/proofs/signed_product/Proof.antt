@@ -16,20 +16,20 @@ second c = record { sfits = c .signed-of2 .ok }
 fits : (c : tie.After-signed-of2) → SFits w64 (c .before .signed-of .result *ℤ c .signed-of2 .result)
 fits c = product-fits (c .before .signed-of .result) (c .signed-of2 .result) (first (c .before)) (second c)
 
-cast-bits-of : tie.Need-cast-bits-of
-cast-bits-of c = rw (toZ-ofZ (first c)) (sfits-widen tt (first c))
+cast-unsigned-long-of : tie.Need-cast-unsigned-long-of
+cast-unsigned-long-of c = rw (toZ-ofZ (first c)) (sfits-widen tt (first c))
 
-cast-bits-of-2 : tie.Need-cast-bits-of-2
-cast-bits-of-2 c = rw (toZ-ofZ (second c)) (sfits-widen tt (second c))
+cast-unsigned-long-of-2 : tie.Need-cast-unsigned-long-of-2
+cast-unsigned-long-of-2 c = rw (toZ-ofZ (second c)) (sfits-widen tt (second c))
 
-mul-bits-of : tie.Need-mul-bits-of
-mul-bits-of c = rw (widened (first (c .before)), widened (second c)) (fits c)
+mul-unsigned-long-of : tie.Need-mul-unsigned-long-of
+mul-unsigned-long-of c = rw (widened (first (c .before)), widened (second c)) (fits c)
 
 returns : tie.Need-returns
 returns c =
     let d = c .before in
     rw (
-      c .bits-of .ensures,
+      c .unsigned-long-of .ensures,
       widened (first (d .before)),
       widened (second d),
       toZ-ofZ (fits d),
@@ -40,4 +40,4 @@ returns c =
 pub signed-product-spec : {M : Type 1} → statement M
 signed-product-spec =
     tie.close
-    (tie.spec (λ c κs. search needs) cast-bits-of (λ c κs. search needs) cast-bits-of-2 mul-bits-of (λ c κs. search needs) returns)
+    (tie.spec (λ c κs. search needs) cast-unsigned-long-of (λ c κs. search needs) cast-unsigned-long-of-2 mul-unsigned-long-of (λ c κs. search needs) returns)

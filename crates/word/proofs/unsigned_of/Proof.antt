@@ -1,46 +1,23 @@
-use mathlib.Core.Path.{_≡_}
-use mathlib.Core.Bool.{true, false}
-use lib.IntN.{pos}
-use lib.Signed.{ltZ}
-use mir.Facts.{toZ-ofZ}
-use Rattle.word.proofs.Integers.{turned-fits, bits-below, bits-from}
+use native.Mathlib.Omega.{arith}
+use lib.Bits.{and-mask, mask-lt}
+use mir.Syntax.{w32, w64}
+use mir.Facts.{toZ-ofZ, sfits-widen}
+use borrow.Author.Needs.{needs}
+use Rattle.word.proofs.Integers.{wrapped-low}
 use Rattle.word.proofs.unsigned_of.Statement.{statement}
 use Rattle.word.proofs.unsigned_of.Tie as tie
 
-below : (c : tie.Then1) → ltZ (c .before .args .number) (pos 0) ≡ true
-below c = rw (toZ-ofZ (c .before .fits .number)) at (c .if1 .taken)
-
-from : (c : tie.Else1) → ltZ (c .before .args .number) (pos 0) ≡ false
-from c = rw (toZ-ofZ (c .before .fits .number)) at (c .if1 .left)
-
-sub-result : tie.Need-sub-result
-sub-result c =
-    let f = c .before .fits .number in
-    rw (toZ-ofZ f) (turned-fits (c .before .args .number) f)
+cast-unsigned-long-of : tie.Need-cast-unsigned-long-of
+cast-unsigned-long-of c = rw (toZ-ofZ (c .fits .number)) (sfits-widen tt (c .fits .number))
 
 cast-result : tie.Need-cast-result
-cast-result c =
-    let f = c .before .fits .number in
-    let z = c .before .args .number in
-    let k = bits-below z f (below c) in
-    rw (toZ-ofZ f, toZ-ofZ (turned-fits z f)) (k .0, k .1)
+cast-result c = record { fits = mask-lt (c .unsigned-long-of .result) 32 }
 
 returns : tie.Need-returns
 returns c =
     let f = c .before .fits .number in
-    let z = c .before .args .number in
-    rw (toZ-ofZ f, toZ-ofZ (turned-fits z f)) (bits-below z f (below c) .2)
-
-cast-result-2 : tie.Need-cast-result-2
-cast-result-2 c =
-    let f = c .before .fits .number in
-    let k = bits-from (c .before .args .number) f (from c) in
-    rw (toZ-ofZ f) (k .0, k .1)
-
-returns-2 : tie.Need-returns-2
-returns-2 c =
-    let f = c .before .fits .number in
-    rw (toZ-ofZ f) (bits-from (c .before .args .number) f (from c) .2)
+    let wide = toZ-ofZ (sfits-widen {w = w32} {w′ = w64} tt f) in
+    rw (and-mask (c .unsigned-long-of .result) 32, c .unsigned-long-of .ensures, toZ-ofZ f, wide) (wrapped-low 32 32 (c .before .args .number))
 
 pub unsigned-of-spec : {M : Type 1} → statement M
-unsigned-of-spec = tie.close (tie.spec sub-result cast-result returns cast-result-2 returns-2)
+unsigned-of-spec = tie.close (tie.spec cast-unsigned-long-of (λ c κs. search needs) cast-result returns)

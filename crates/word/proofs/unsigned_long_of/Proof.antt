@@ -3,9 +3,9 @@ use mathlib.Core.Bool.{true, false}
 use lib.IntN.{pos}
 use lib.Signed.{ltZ}
 use mir.Facts.{toZ-ofZ}
 use Rattle.word.proofs.Integers.{turned-fits, bits-below, bits-from}
-use Rattle.product.proofs.bits_of.Statement.{statement}
-use Rattle.product.proofs.bits_of.Tie as tie
+use Rattle.word.proofs.unsigned_long_of.Statement.{statement}
+use Rattle.word.proofs.unsigned_long_of.Tie as tie
 
 below : (c : tie.Then1) → ltZ (c .before .args .number) (pos 0) ≡ true
 below c = rw (toZ-ofZ (c .before .fits .number)) at (c .if1 .taken)
@@ -42,5 +42,5 @@ returns-2 c =
     let f = c .before .fits .number in
     rw (toZ-ofZ f) (bits-from (c .before .args .number) f (from c) .2)
 
-pub bits-of-spec : {M : Type 1} → statement M
-bits-of-spec = tie.close (tie.spec sub-result cast-result returns cast-result-2 returns-2)
+pub unsigned-long-of-spec : {M : Type 1} → statement M
+unsigned-long-of-spec = tie.close (tie.spec sub-result cast-result returns cast-result-2 returns-2)
