@@ -31,7 +31,12 @@ within lsb width i =
 
 mask-bit : (lsb width i : ℕ) → i < 32 → bit i ((2 ^ width - 1) % 2 ^ 32 * 2 ^ lsb % 2 ^ 32) ≡ (leb lsb i && ltb i (lsb + width))
 mask-bit lsb width i h =
-    rw (bit-mod ((2 ^ width - 1) % 2 ^ 32 * 2 ^ lsb) 32 i h, bit-shl ((2 ^ width - 1) % 2 ^ 32) lsb i, bit-mod (2 ^ width - 1) 32 (i - lsb) (omega arith), bit-ones width (i - lsb))
+    rw (
+      bit-mod ((2 ^ width - 1) % 2 ^ 32 * 2 ^ lsb) 32 i h,
+      bit-shl ((2 ^ width - 1) % 2 ^ 32) lsb i,
+      bit-mod (2 ^ width - 1) 32 (i - lsb) (omega arith),
+      bit-ones width (i - lsb),
+    )
     (within lsb width i)
 
 -- shifted in under the mask, or kept outside it
@@ -61,7 +66,15 @@ module _ (d x lsb width : ℕ) (h : d < 2 ^ 32) where
       by-bits 32 put (λ i. if leb lsb i && ltb i (lsb + width) then bit (i - lsb) x else bit i d)
       (or-lt 32 (bitAnd y mask) (bitAnd d n) (omega (arith, and-le-l y mask)) (omega (arith, and-le-l d n)))
       (λ i l.
-      rw (bit-or (bitAnd y mask) (bitAnd d n) i, bit-and y mask i, bit-and d n i, bit-inverted 32 mask i (omega arith) l, bit-mod (x * 2 ^ lsb) 32 i l, bit-shl x lsb i, mask-bit lsb width i l)
+      rw (
+        bit-or (bitAnd y mask) (bitAnd d n) i,
+        bit-and y mask i,
+        bit-and d n i,
+        bit-inverted 32 mask i (omega arith) l,
+        bit-mod (x * 2 ^ lsb) 32 i l,
+        bit-shl x lsb i,
+        mask-bit lsb width i l,
+      )
       (chosen (leb lsb i) (bit (i - lsb) x) (ltb i (lsb + width)) (bit i d)))
 
 pub put-none : (d x lsb width : ℕ) → d < 2 ^ 32 → 32 ≤ lsb → d ≡ BFI d x lsb width
@@ -79,7 +92,13 @@ filled f width h l p q =
     let top = rw e at (high-ones (32 - width) width) in
     let mask : 2 ^ 32 - 1 - (2 ^ width - 1) ≡ (2 ^ (32 - width) - 1) * 2 ^ width = omega (arith, top, pow-pos width) in
     let most = pow-mono {i = width} {j = 32} q in
-    rw (mask, or-shifted-r (2 ^ (32 - width) - 1) width f h, le-leb (2 ^ (width - 1)) f l, minus-more f (2 ^ width) h, mod-eq-of-lt {n = 2 ^ width - suc f} {m = 2 ^ 32} (omega arith))
+    rw (
+      mask,
+      or-shifted-r (2 ^ (32 - width) - 1) width f h,
+      le-leb (2 ^ (width - 1)) f l,
+      minus-more f (2 ^ width) h,
+      mod-eq-of-lt {n = 2 ^ width - suc f} {m = 2 ^ 32} (omega arith),
+    )
     (omega arith)
 
 pub kept : (f width : ℕ) → f < 2 ^ 32 → f < 2 ^ (width - 1) → f ≡ wrapped 32 (signed-in width f)

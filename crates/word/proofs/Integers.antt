@@ -94,7 +94,11 @@ turned-over w x l h =
 pub signed-inverted : (x : ℕ) → x < 2 ^ 32 → signed (inverted x) ≡ negsuc 0 -ℤ signed x
 signed-inverted x h =
     cases (le-or-gt (2 ^ 31) x)
-    (λ l. rw (signed-large x l h, signed-small (inverted x) (omega arith), minus-one-minus (2 ^ 32 - suc x)) (ap pos (omega arith)))
+    (λ l. rw (
+      signed-large x l h,
+      signed-small (inverted x) (omega arith),
+      minus-one-minus (2 ^ 32 - suc x),
+    ) (ap pos (omega arith)))
     (λ l.
     rw (signed-small x l, signed-large (inverted x) (omega arith) (omega arith), minus-one-less x)
     (ap negsuc (omega arith)))

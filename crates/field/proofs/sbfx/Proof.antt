@@ -45,7 +45,12 @@ returns-2 c =
     let large = leb-true (2 ^ (a .width - 1)) f (tested f (a .x) (a .lsb) (a .width) p e true set) in
     let most : a .width ≤ 32 = cases (le-or-gt (a .width) 32) (λ l. l) (λ l. absurd (omega (arith, pow-mono {i = 32} {j = a .width - 1} (omega arith)))) in
     let m : min (a .width) 32 ≡ a .width = omega arith in
-    rw (c .ones .ensures, ones-mod (a .width) 32, m, ← e) (filled f (a .width) (below f (a .x) (a .lsb) (a .width) p e) large p most)
+    rw (
+      c .ones .ensures,
+      ones-mod (a .width) 32,
+      m,
+      ← e,
+    ) (filled f (a .width) (below f (a .x) (a .lsb) (a .width) p e) large p most)
 
 returns-3 : tie.Need-returns-3
 unfolding SBFX

@@ -84,13 +84,21 @@ returns-15 c =
 returns-16 : tie.Need-returns-16
 unfolding way
 returns-16 c =
-    simp (c .taken-if-of5 .ensures, c .before .holds .ensures, c .before .before .loads-many-of .ensures, c .before .before .before .before .r5 .given .1)
+    simp (
+      c .taken-if-of5 .ensures,
+      c .before .holds .ensures,
+      c .before .before .loads-many-of .ensures,
+      c .before .before .before .before .r5 .given .1,
+    )
 
 returns-17 : tie.Need-returns-17
 unfolding way
 returns-17 c =
     let d = c .before .before .r6 .given .0 .0 in
-    simp (c .before .before .r6 .given .1, toZ-ofZ {w = w32} {z = d .offset} (record { sfits = c .struct-told .given .1 .1 .1 .0 .1 }))
+    simp (
+      c .before .before .r6 .given .1,
+      toZ-ofZ {w = w32} {z = d .offset} (record { sfits = c .struct-told .given .1 .1 .1 .0 .1 }),
+    )
 
 returns-18 : tie.Need-returns-18
 unfolding way

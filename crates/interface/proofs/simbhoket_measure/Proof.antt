@@ -11,8 +11,16 @@ returns c =
 returns-2 : tie.Need-returns-2
 unfolding measured
 returns-2 c =
-    rw (← c .before .before .before .before .before .before .before .read-next .ensures, c .before .before .before .before .before .found .given .1)
-    (simp (c .pair-of .ensures, c .before .machine-length-of .ensures, c .before .before .listing-length-of .ensures, c .before .before .before .byte-at .ensures))
+    rw (
+      ← c .before .before .before .before .before .before .before .read-next .ensures,
+      c .before .before .before .before .before .found .given .1,
+    )
+    (simp (
+      c .pair-of .ensures,
+      c .before .machine-length-of .ensures,
+      c .before .before .listing-length-of .ensures,
+      c .before .before .before .byte-at .ensures,
+    ))
 
 pub simbhoket-measure-spec : {M : Type 1} → statement M
 simbhoket-measure-spec = tie.close (tie.spec (λ c κs. search needs) (λ c. search needs) (λ c. search needs) returns (λ c κs. search needs) (λ c κs. search needs) (λ c. search needs) (λ c κs. search needs) (λ c κs. search needs) returns-2)

@@ -11,7 +11,12 @@ returns c =
 returns-2 : tie.Need-returns-2
 unfolding way-read
 returns-2 c =
-    rw (← c .before .before .before .before .before .read-all .ensures, c .before .before .before .found .given .1, c .way-number-of .ensures, c .before .way-of .ensures)
+    rw (
+      ← c .before .before .before .before .before .read-all .ensures,
+      c .before .before .before .found .given .1,
+      c .way-number-of .ensures,
+      c .before .way-of .ensures,
+    )
 
 pub simbhoket-way-spec : {M : Type 1} → statement M
 simbhoket-way-spec = tie.close (tie.spec (λ c κs. search needs) (λ c. search needs) (λ c. search needs) returns (λ c κs. search needs) (λ c κs. search needs) returns-2)

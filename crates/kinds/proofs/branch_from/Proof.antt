@@ -9,7 +9,12 @@ returns : tie.Need-returns
 unfolding branch
 returns c =
     let read = toZ-ofZ {w = w32} {z = c .signed-of .result} (record { sfits = c .signed-of .ok }) in
-    rw read (rw (c .signed-of .ensures, c .before .word-of .ensures, c .before .before .form-of .ensures, c .before .before .before .branch-op-of .ensures))
+    rw read (rw (
+      c .signed-of .ensures,
+      c .before .word-of .ensures,
+      c .before .before .form-of .ensures,
+      c .before .before .before .branch-op-of .ensures,
+    ))
 
 pub branch-from-spec : {M : Type 1} → statement M
 branch-from-spec = tie.close (tie.spec (λ c. search needs) (λ c κs. search needs) (λ c. search needs) (λ c κs. search needs) (λ c. search needs) (λ c. search needs) (λ c. search needs) (λ c. search needs) (λ c. search needs) (λ c κs. search needs) (λ c κs. search needs) returns)

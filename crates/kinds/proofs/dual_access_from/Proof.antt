@@ -9,7 +9,13 @@ returns : tie.Need-returns
 unfolding dual-access
 returns c =
     let read = toZ-ofZ {w = w16} {z = c .signed-half-of .result} (record { sfits = c .signed-half-of .ok }) in
-    rw read (rw (c .signed-half-of .ensures, c .before .half-of .ensures, c .before .before .mode-of .ensures, c .before .before .before .form-of .ensures, c .before .before .before .before .dual-op-of .ensures))
+    rw read (rw (
+      c .signed-half-of .ensures,
+      c .before .half-of .ensures,
+      c .before .before .mode-of .ensures,
+      c .before .before .before .form-of .ensures,
+      c .before .before .before .before .dual-op-of .ensures,
+    ))
 
 pub dual-access-from-spec : {M : Type 1} → statement M
 dual-access-from-spec = tie.close (tie.spec (λ c. search needs) (λ c κs. search needs) (λ c. search needs) (λ c κs. search needs) (λ c. search needs) (λ c. search needs) (λ c. search needs) (λ c. search needs) (λ c κs. search needs) (λ c. search needs) (λ c. search needs) (λ c κs. search needs) (λ c κs. search needs) returns)

@@ -44,7 +44,17 @@ byte-at-requires-9 c κs = search needs
 -- src/lib.rt:87:1
 returns : tie.Need-returns
 returns c =
-    rw (c .byte-at9 .ensures, c .before .byte-at8 .ensures, c .before .before .byte-at7 .ensures, c .before .before .before .byte-at6 .ensures, c .before .before .before .before .byte-at5 .ensures, c .before .before .before .before .before .byte-at4 .ensures, c .before .before .before .before .before .before .byte-at3 .ensures, c .before .before .before .before .before .before .before .byte-at2 .ensures, c .before .before .before .before .before .before .before .before .byte-at .ensures)
+    rw (
+      c .byte-at9 .ensures,
+      c .before .byte-at8 .ensures,
+      c .before .before .byte-at7 .ensures,
+      c .before .before .before .byte-at6 .ensures,
+      c .before .before .before .before .byte-at5 .ensures,
+      c .before .before .before .before .before .byte-at4 .ensures,
+      c .before .before .before .before .before .before .byte-at3 .ensures,
+      c .before .before .before .before .before .before .before .byte-at2 .ensures,
+      c .before .before .before .before .before .before .before .before .byte-at .ensures,
+    )
 
 pub nine-of-spec : {M : Type 1} → statement M
 nine-of-spec =

@@ -40,4 +40,5 @@ returns c =
 pub signed-product-spec : {M : Type 1} → statement M
 signed-product-spec =
     tie.close
-    (tie.spec (λ c κs. search needs) cast-unsigned-long-of (λ c κs. search needs) cast-unsigned-long-of-2 mul-unsigned-long-of (λ c κs. search needs) returns)
+    (tie.spec (λ c κs. search needs) cast-unsigned-long-of (λ c κs. search needs) cast-unsigned-long-of-2
+    mul-unsigned-long-of (λ c κs. search needs) returns)

@@ -29,7 +29,13 @@ unfolding coded
 returns-6 c =
     let kind = c .before .args .kind in
     let no = c .match .rest in
-    rw (ne-eqb kind 0x01 (no .0 .0 .0 .0 .1), ne-eqb kind 0x0A (no .0 .0 .0 .1), ne-eqb kind 0x0D (no .0 .0 .1), ne-eqb kind 0x0F (no .0 .1), ne-eqb kind 0x10 (no .1))
+    rw (
+      ne-eqb kind 0x01 (no .0 .0 .0 .0 .1),
+      ne-eqb kind 0x0A (no .0 .0 .0 .1),
+      ne-eqb kind 0x0D (no .0 .0 .1),
+      ne-eqb kind 0x0F (no .0 .1),
+      ne-eqb kind 0x10 (no .1),
+    )
 
 pub is-coded-spec : {M : Type 1} → statement M
 is-coded-spec = tie.close (tie.spec (λ c. search needs) (λ c. search needs) (λ c. search needs) (λ c. search needs) (λ c. search needs) returns returns-2 returns-3 returns-4 returns-5 returns-6)

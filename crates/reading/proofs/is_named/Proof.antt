@@ -20,4 +20,5 @@ returns-2 c =
 pub is-named-spec : {M : Type 1} → statement M
 is-named-spec =
     tie.close
-    (tie.spec (λ c. search needs) (λ c. search needs) returns (λ c. search needs) (λ c κs. search needs) (λ c. search needs) (λ c κs. search needs) returns-2)
+    (tie.spec (λ c. search needs) (λ c. search needs) returns (λ c. search needs) (λ c κs. search needs)
+    (λ c. search needs) (λ c κs. search needs) returns-2)

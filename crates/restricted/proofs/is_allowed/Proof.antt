@@ -16,7 +16,12 @@ returns-2 c =
 returns-3 : tie.Need-returns-3
 unfolding allowed
 returns-3 c =
-    simp (c .plain-of3 .ensures, c .before .plain-of2 .ensures, c .before .before .plain-of .ensures, c .before .before .before .before .r3 .given .1)
+    simp (
+      c .plain-of3 .ensures,
+      c .before .plain-of2 .ensures,
+      c .before .before .plain-of .ensures,
+      c .before .before .before .before .r3 .given .1,
+    )
 
 returns-4 : tie.Need-returns-4
 unfolding allowed
@@ -46,7 +51,12 @@ returns-8 c =
 returns-9 : tie.Need-returns-9
 unfolding allowed
 returns-9 c =
-    simp (c .plain-of9 .ensures, c .before .plain-of8 .ensures, c .before .before .plain-of7 .ensures, c .before .before .before .before .r9 .given .1)
+    simp (
+      c .plain-of9 .ensures,
+      c .before .plain-of8 .ensures,
+      c .before .before .plain-of7 .ensures,
+      c .before .before .before .before .r9 .given .1,
+    )
 
 returns-10 : tie.Need-returns-10
 unfolding allowed

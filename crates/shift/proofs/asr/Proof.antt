@@ -23,7 +23,13 @@ returns-2 c =
     let s = c .before .before .signed-of in
     let v = shifted-signed (a .x) (c .before .unsigned-of .result) 31 (s .result) (record { sfits = s .ok }) (s .ensures) (c .before .unsigned-of .ensures) in
     let m : min (a .amount - 1) 31 ≡ 31 = omega arith in
-    simp (v, c .bit-of .ensures, m, ne-eqb (a .amount) 0 (omega arith), all-sign (signed (a .x)) (a .amount) (rw (s .ensures) at (s .ok)) (omega arith))
+    simp (
+      v,
+      c .bit-of .ensures,
+      m,
+      ne-eqb (a .amount) 0 (omega arith),
+      all-sign (signed (a .x)) (a .amount) (rw (s .ensures) at (s .ok)) (omega arith),
+    )
 
 returns-3 : tie.Need-returns-3
 unfolding ASR

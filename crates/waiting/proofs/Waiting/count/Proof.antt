@@ -21,12 +21,22 @@ returns-3 c =
 returns-4 : tie.Need-returns-4
 unfolding waiting-count
 returns-4 c =
-    simp (c .if4 .taken, ne-eqb _ _ (c .before .before .if3 .left), ne-eqb _ _ (c .before .before .before .before .if2 .left), ne-eqb _ _ (c .before .before .before .before .before .before .if1 .left))
+    simp (
+      c .if4 .taken,
+      ne-eqb _ _ (c .before .before .if3 .left),
+      ne-eqb _ _ (c .before .before .before .before .if2 .left),
+      ne-eqb _ _ (c .before .before .before .before .before .before .if1 .left),
+    )
 
 returns-5 : tie.Need-returns-5
 unfolding waiting-count
 returns-5 c =
-    simp (ne-eqb _ _ (c .if4 .left), ne-eqb _ _ (c .before .before .if3 .left), ne-eqb _ _ (c .before .before .before .before .if2 .left), ne-eqb _ _ (c .before .before .before .before .before .before .if1 .left))
+    simp (
+      ne-eqb _ _ (c .if4 .left),
+      ne-eqb _ _ (c .before .before .if3 .left),
+      ne-eqb _ _ (c .before .before .before .before .if2 .left),
+      ne-eqb _ _ (c .before .before .before .before .before .before .if1 .left),
+    )
 
 pub count-spec : {M : Type 1} → statement M
 count-spec = tie.close (tie.spec returns returns-2 returns-3 returns-4 returns-5)
