@@ -1,11 +1,11 @@
 -- A field taken out by a mask, one put in by a mask, and one made signed.
-use Prim.Native.Nat.{ℕ, suc, _+_, _-_, _*_, _/_, _%_, _^_, _≤_, _<_, min}
-use mathlib.Core.Path.{_≡_, refl, sym, _∙_}
+use Prim.Native.Nat.{ℕ, suc, _+_, _-_, _*_, _%_, _^_, _≤_, _<_, min}
+use mathlib.Core.Path.{_≡_, refl, sym}
 use mathlib.Core.Bool.{Bool, true, false, not, _&&_, _||_}
 use native.Mathlib.Omega.{arith}
-use native.Mathlib.Nat.{mod-eq-of-lt, lt-of-le-of-lt, lt-of-lt-of-le, pow-suc}
+use native.Mathlib.Nat.{mod-eq-of-lt}
 use borrow.Author.Tests.{le-leb, lt-leb, lt-ltb, le-ltb}
-use lib.Bits.{bitAnd, bitOr, and-mask, or-lt, and-le-r, and-le-l, or-shifted-r}
+use lib.Bits.{bitAnd, bitOr, and-mask, or-lt, and-le-l, or-shifted-r}
 use lib.Dec.{leb, ltb}
 use lib.Pow.{pow-pos, pow-mono, high-ones}
 use Rattle.word.specs.Choice.{if_then_else_}

@@ -1,7 +1,5 @@
 -- What the C functions answer, as include/simbhoket.h says it.
 use Prim.Native.Nat.{ℕ, _+_, _*_, _^_}
-use mathlib.Core.List.{List}
-use Rattle.little.specs.Little.{byte}
 use Rattle.flow.specs.Flow.{machine-length, way, target}
 use Rattle.flow.specs.declared.Way.{Way}
 use Rattle.flow.specs.declared.Way.the-variants.{Next, Direct, Taken}

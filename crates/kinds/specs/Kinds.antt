@@ -1,6 +1,5 @@
 -- The table of kinds: "One byte of kind (hex), then a body whose length the kind fixes. .. Numbers little-endian."
 use Prim.Native.Nat.{ℕ, _+_, _*_, _^_}
-use mathlib.Core.Bool.{Bool}
 use mathlib.Core.List.{List, [], _∷_}
 use lib.ListN.{getD}
 use Rattle.word.specs.Word.{bit, signed, signed-in}

@@ -2,7 +2,7 @@
 
 ghost use mathlib.Core.Path.{_≡_};
 ghost use Prim.Native.Nat.{_+_, _*_, _^_};
-ghost use Rattle.kinds.specs.Kinds.{nine, listing-length, names, form, record-of, shifted-register, constant, register-shift, add-number, move-number, turn, multiply, long-multiply, divide, saturate, bit-field, extend, access, indexed-access, dual-access, multiple-access, branch, register-branch, compare-branch, if-then, nop};
+ghost use Rattle.kinds.specs.Kinds.{nine, listing-length, names, form, record-of, shifted-register, constant, register-shift, add-number, move-number, turn, multiply, long-multiply, divide, saturate, bit-field, extend, access, indexed-access, dual-access, multiple-access, branch, register-branch, compare-branch, if-then};
 use record::AccessFields;
 use record::AddNumberFields;
 use record::BitFieldFields;

@@ -8,7 +8,6 @@ use Rattle.word.specs.Choice.{if_then_else_}
 use Rattle.little.specs.Little.{byte}
 use Rattle.fields.specs.Fields.{well-formed}
 use Rattle.kinds.specs.Kinds.{listing-length, names, record-of}
-use Rattle.reading.specs.declared.Place.{Place}
 use Rattle.reading.specs.declared.Read.{Read}
 use Rattle.reading.specs.declared.Read.the-variants.{Is, Refused}
 use Rattle.reading.specs.declared.ReadAt.{ReadAt}

@@ -1,10 +1,10 @@
 -- "Restricted (3)." What is allowed of each kind; anything else is number 3.
 use Prim.Native.Nat.{ℕ}
-use mathlib.Core.Bool.{Bool, true, false, not, _&&_, _||_}
-use lib.Dec.{leb, ltb, eqb}
+use mathlib.Core.Bool.{Bool, true, not, _&&_, _||_}
+use lib.Dec.{leb, eqb}
 use Rattle.word.specs.Choice.{if_then_else_}
 use Rattle.register_list.specs.List.{member}
-use Rattle.record.specs.Op.{data-code, is-lsl, is-mul, loads, loads-dual, loads-many, is-blx, is-offset}
+use Rattle.record.specs.Op.{data-code, is-lsl, loads, loads-dual, loads-many, is-blx, is-offset}
 use Rattle.record.specs.declared.op.DataOp.{DataOp}
 use Rattle.record.specs.declared.op.AccessOp.{AccessOp}
 use Rattle.record.specs.declared.op.AccessOp.the-variants.{Ldr, Ldrb, Ldrh, Ldrsb, Ldrsh, Str, Strb, Strh}

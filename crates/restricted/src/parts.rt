@@ -1,7 +1,7 @@
 // The kinds that take R13 or R15 in some places, or restrict more than those.
 
 ghost use mathlib.Core.Path.{_≡_};
-ghost use Rattle.restricted.specs.Restricted.{plain, adds, compares, first-operand, result, transferred};
+ghost use Rattle.restricted.specs.Restricted.{plain, first-operand, result, transferred};
 ghost use Rattle.restricted.specs.Restricted.{shifted-register, constant-operand, add-number, multiply, long-multiply, access, indexed-access, dual-access, multiple-access};
 use record::AccessFields;
 use record::AddNumberFields;

@@ -1,7 +1,6 @@
 -- Leading zeros counted from the top, bytes exchanged, and a reversal with one bit more.
 use Prim.Native.Nat.{ℕ, zero, suc, _+_, _-_, _*_, _/_, _%_, _^_, _≤_, _<_}
 use mathlib.Core.Path.{_≡_, sym, ap, _∙_}
-use mathlib.Core.Bool.{Bool, true, false}
 use native.Mathlib.Omega.{arith}
 use native.Mathlib.Nat.{pow-suc, sub-zero}
 use native.Mathlib.Numerals.{add-one}

@@ -1,6 +1,5 @@
 -- CLZ REV REV16 REVSH RBIT.
 use Prim.Native.Nat.{ℕ, zero, suc, _+_, _-_, _*_, _/_, _%_, _^_}
-use mathlib.Core.Bool.{Bool}
 use Rattle.word.specs.Choice.{if_then_else_}
 use Rattle.word.specs.Word.{bit, from-bits}
 use Rattle.field.specs.Field.{SBFX}

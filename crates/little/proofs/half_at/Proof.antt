@@ -1,9 +1,9 @@
-use Prim.Native.Nat.{_+_, _*_, _%_, _^_, _<_}
+use Prim.Native.Nat.{_*_, _%_, _^_}
 use mathlib.Core.Path.{_≡_, sym}
 use native.Mathlib.Omega.{arith}
 use lib.Bits.{or-shifted}
 use borrow.Author.Needs.{needs}
-use Rattle.little.specs.Little.{byte, little}
+use Rattle.little.specs.Little.{little}
 use Rattle.little.proofs.Laws.{past}
 use Rattle.little.proofs.half_at.Statement.{statement}
 use Rattle.little.proofs.half_at.Tie as tie

@@ -1,4 +1,3 @@
-use native.Mathlib.Omega.{arith}
 use lib.Bits.{and-mask, mask-lt}
 use mir.Syntax.{w32, w64}
 use mir.Facts.{toZ-ofZ, sfits-widen}
