@@ -137,3 +137,27 @@ after (RegisterBranch d) w = dropped w
 after (CompareBranch d) w = dropped w
 after (IfThen d) w = block (d .condition) (d .count) (d .elses)
 after (Nop form) w = dropped w
+
+-- "kind 11 outside a block uses its own"; any other has none but the block's, as if it were AL
+unfoldable pub own-condition : Record → ℕ
+own-condition (ShiftedRegister d) = 14
+own-condition (Constant d) = 14
+own-condition (RegisterShift d) = 14
+own-condition (AddNumber d) = 14
+own-condition (MoveNumber d) = 14
+own-condition (Turn d) = 14
+own-condition (Multiply d) = 14
+own-condition (LongMultiply d) = 14
+own-condition (Divide d) = 14
+own-condition (Saturate d) = 14
+own-condition (BitField d) = 14
+own-condition (Extend d) = 14
+own-condition (Access d) = 14
+own-condition (IndexedAccess d) = 14
+own-condition (DualAccess d) = 14
+own-condition (MultipleAccess d) = 14
+own-condition (Branch d) = d .condition
+own-condition (RegisterBranch d) = 14
+own-condition (CompareBranch d) = 14
+own-condition (IfThen d) = 14
+own-condition (Nop form) = 14

@@ -1,7 +1,7 @@
 // What a record does to the way through a listing.
 
 ghost use mathlib.Core.Path.{_≡_};
-ghost use Rattle.flow.specs.Flow.{wide, machine-length, to-pc, taken-if, way, target, leaves, alone, misplaced, after};
+ghost use Rattle.flow.specs.Flow.{wide, machine-length, to-pc, taken-if, way, target, leaves, alone, misplaced, after, own-condition};
 use record::Record;
 use record::op::DataOp;
 use waiting::Waiting;
@@ -197,5 +197,34 @@ pub fn waiting_after(r: Record, w: Waiting) -> Waiting
         Record::CompareBranch(_) => w.drop_first(),
         Record::IfThen(d) => Waiting::block_of(d.condition, d.count, d.elses),
         Record::Nop(_) => w.drop_first(),
+    }
+}
+
+// The condition that rules a record outside a block.
+pub fn own_condition_of(r: Record) -> u8
+    ensures { λ t. ⌜ t ≡ own-condition r ⌝ }
+{
+    match r {
+        Record::ShiftedRegister(_) => 14,
+        Record::Constant(_) => 14,
+        Record::RegisterShift(_) => 14,
+        Record::AddNumber(_) => 14,
+        Record::MoveNumber(_) => 14,
+        Record::Turn(_) => 14,
+        Record::Multiply(_) => 14,
+        Record::LongMultiply(_) => 14,
+        Record::Divide(_) => 14,
+        Record::Saturate(_) => 14,
+        Record::BitField(_) => 14,
+        Record::Extend(_) => 14,
+        Record::Access(_) => 14,
+        Record::IndexedAccess(_) => 14,
+        Record::DualAccess(_) => 14,
+        Record::MultipleAccess(_) => 14,
+        Record::Branch(d) => d.condition,
+        Record::RegisterBranch(_) => 14,
+        Record::CompareBranch(_) => 14,
+        Record::IfThen(_) => 14,
+        Record::Nop(_) => 14,
     }
 }

@@ -1,5 +1,5 @@
 -- The members of a list are the bits that are set.
-use Prim.Native.Nat.{ℕ, zero, suc, _+_, _*_, _/_, _%_, _^_}
+use Prim.Native.Nat.{ℕ, zero, suc, _+_, _*_, _/_, _%_, _^_, _≤_}
 use mathlib.Core.Path.{_≡_, sym, ap}
 use native.Mathlib.Omega.{arith}
 use native.Mathlib.Nat.{mod-one, mod-lt}
@@ -7,7 +7,8 @@ use native.Mathlib.Numerals.{one-add}
 use lib.Count.{ones, ones-step, ones-cat}
 use lib.Pow.{pow-pos, mod-pow-add}
 use Rattle.word.proofs.Bits.{one-if-bit}
-use Rattle.register_list.specs.List.{members-below}
+use Rattle.word.proofs.Numbers.{one-if-le}
+use Rattle.register_list.specs.List.{member, members-below}
 
 -- one bit more counts for itself
 ones-bit : (n x : ℕ) → ones (x % 2 ^ suc n) ≡ x / 2 ^ n % 2 + ones (x % 2 ^ n)
@@ -26,3 +27,8 @@ unfolding members-below ones
 members-are-ones zero list = sym (ap ones (mod-one list))
 members-are-ones (suc n) list =
     rw (members-are-ones n list, one-if-bit n list) (omega (arith, ones-bit n list))
+
+pub members-le : (n list : ℕ) → members-below n list ≤ n
+unfolding members-below
+members-le zero list = omega arith
+members-le (suc n) list = omega (arith, members-le n list, one-if-le (member list n))

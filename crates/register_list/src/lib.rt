@@ -14,3 +14,10 @@ pub fn count(list: u16) -> u32
 {
     u16::count_ones(list)
 }
+
+// The members among the registers below one.
+pub fn count_below(list: u16, register: u32) -> u32
+    ensures { λ r. ⌜ r ≡ members-below register list ⌝ }
+{
+    u32::count_ones(list as u32 & word::ones(register))
+}

@@ -1,6 +1,6 @@
 -- "a list of zero to four waiting conditions", the first to be used first; a place of the list that holds none is 15.
 use Prim.Native.Nat.{ℕ, _+_, _-_}
-use mathlib.Core.Bool.{Bool, false, _&&_}
+use mathlib.Core.Bool.{Bool, false, not, _&&_, _||_}
 use lib.Dec.{leb, eqb}
 use Rattle.word.specs.Choice.{if_then_else_}
 use Rattle.word.specs.Word.{bit}
@@ -44,3 +44,19 @@ block condition count elses = record {
 
 unfoldable pub same : Waiting → Waiting → Bool
 same v w = eqb (v .first) (w .first) && eqb (v .second) (w .second) && eqb (v .third) (w .third) && eqb (v .fourth) (w .fourth)
+
+-- "each the same as the first or its inverse"; "14 has no inverse": 15 is no condition
+abbrev pub agrees : ℕ → ℕ → Bool
+agrees first condition = leb condition 14 && (eqb condition first || eqb condition (inverse first))
+
+-- a further place holds none, or a condition that agrees with the first, and then the place before it holds one too
+abbrev pub good-place : ℕ → ℕ → ℕ → Bool
+good-place first before condition = eqb condition none || not (eqb before none) && agrees first condition
+
+-- "each waiting condition is 0 to 14, each the same as the first or its inverse"
+unfoldable pub good-waiting : Waiting → Bool
+good-waiting w =
+    leb (w .first) none
+    && good-place (w .first) (w .first) (w .second)
+    && good-place (w .first) (w .second) (w .third)
+    && good-place (w .first) (w .third) (w .fourth)

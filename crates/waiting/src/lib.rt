@@ -1,7 +1,7 @@
 // The waiting conditions: those of a block that are still to be used.
 
 ghost use mathlib.Core.Path.{_≡_};
-ghost use Rattle.waiting.specs.Waiting.{nothing, waiting-count, dropped, inverse, placed, block, same};
+ghost use Rattle.waiting.specs.Waiting.{nothing, waiting-count, dropped, inverse, placed, block, same, good-place, good-waiting};
 
 // A place that holds no condition is 15.
 pub struct Waiting {
@@ -63,6 +63,16 @@ impl Waiting {
             & (self.fourth == other.fourth)
     }
 
+    // Is it a list that a good machine may have?
+    pub fn is_good(self) -> bool
+        ensures { λ r. ⌜ r ≡ good-waiting self ⌝ }
+    {
+        (self.first <= Waiting::NONE)
+            & is_good_place(self.first, self.first, self.second)
+            & is_good_place(self.first, self.second, self.third)
+            & is_good_place(self.first, self.third, self.fourth)
+    }
+
     // The block that an IT record opens.
     pub fn block_of(condition: u8, count: u8, elses: u8) -> Self
         ensures { λ r. ⌜ r ≡ block condition count elses ⌝ }
@@ -93,4 +103,11 @@ pub fn inverse_of(condition: u8) -> u8
     ensures { λ r. ⌜ r ≡ inverse condition ⌝ }
 {
     condition ^ 1
+}
+
+fn is_good_place(first: u8, before: u8, condition: u8) -> bool
+    ensures { λ r. ⌜ r ≡ good-place first before condition ⌝ }
+{
+    let agrees = (condition <= 14) & ((condition == first) | (condition == inverse_of(first)));
+    (condition == Waiting::NONE) | !(before == Waiting::NONE) & agrees
 }

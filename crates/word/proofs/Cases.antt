@@ -5,8 +5,8 @@ use mathlib.Core.Bool.{Bool, true, false, false≢true, _&&_}
 use mathlib.Core.Logic.{_⊎_, inl, inr, ⊎-elim}
 use native.Mathlib.Omega.{arith}
 use lib.Arith.{lt-of-le-ne}
-use lib.Dec.{leb}
-use borrow.Author.Tests.{leb-true, leb-false, le-leb}
+use lib.Dec.{leb, ltb}
+use borrow.Author.Tests.{leb-true, leb-false, le-leb, ltb-true, lt-ltb}
 
 pub cases : {A B C : Type 0} → A ⊎ B → (A → C) → (B → C) → C
 cases s f g = ⊎-elim f g s
@@ -40,3 +40,7 @@ None-below (suc k) n = None-below k n × (n ≡ k → ⊥)
 pub not-below : (k n : ℕ) → None-below k n → k ≤ n
 not-below zero n p = omega arith
 not-below (suc k) n p = lt-of-le-ne (not-below k n (p .0)) (λ e. p .1 (sym e))
+
+pub ltb-both : (a b c d : ℕ) → (a < b → c < d) → (c < d → a < b) → ltb a b ≡ ltb c d
+ltb-both a b c d to from =
+    same-truth (ltb a b) (ltb c d) (λ e. lt-ltb c d (to (ltb-true a b e))) (λ e. lt-ltb a b (from (ltb-true c d e)))

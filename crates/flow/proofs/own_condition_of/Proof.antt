@@ -1,0 +1,112 @@
+use Rattle.flow.specs.Flow.{own-condition}
+use borrow.Author.Needs.{needs}
+use Rattle.flow.proofs.own_condition_of.Statement.{statement}
+use Rattle.flow.proofs.own_condition_of.Tie as tie
+
+returns : tie.Need-returns
+unfolding own-condition
+returns c =
+    simp (c .enum-told .given .1)
+
+returns-2 : tie.Need-returns-2
+unfolding own-condition
+returns-2 c =
+    simp (c .enum-told2 .given .1)
+
+returns-3 : tie.Need-returns-3
+unfolding own-condition
+returns-3 c =
+    simp (c .enum-told3 .given .1)
+
+returns-4 : tie.Need-returns-4
+unfolding own-condition
+returns-4 c =
+    simp (c .enum-told4 .given .1)
+
+returns-5 : tie.Need-returns-5
+unfolding own-condition
+returns-5 c =
+    simp (c .enum-told5 .given .1)
+
+returns-6 : tie.Need-returns-6
+unfolding own-condition
+returns-6 c =
+    simp (c .enum-told6 .given .1)
+
+returns-7 : tie.Need-returns-7
+unfolding own-condition
+returns-7 c =
+    simp (c .enum-told7 .given .1)
+
+returns-8 : tie.Need-returns-8
+unfolding own-condition
+returns-8 c =
+    simp (c .enum-told8 .given .1)
+
+returns-9 : tie.Need-returns-9
+unfolding own-condition
+returns-9 c =
+    simp (c .enum-told9 .given .1)
+
+returns-10 : tie.Need-returns-10
+unfolding own-condition
+returns-10 c =
+    simp (c .enum-told10 .given .1)
+
+returns-11 : tie.Need-returns-11
+unfolding own-condition
+returns-11 c =
+    simp (c .enum-told11 .given .1)
+
+returns-12 : tie.Need-returns-12
+unfolding own-condition
+returns-12 c =
+    simp (c .enum-told12 .given .1)
+
+returns-13 : tie.Need-returns-13
+unfolding own-condition
+returns-13 c =
+    simp (c .enum-told13 .given .1)
+
+returns-14 : tie.Need-returns-14
+unfolding own-condition
+returns-14 c =
+    simp (c .enum-told14 .given .1)
+
+returns-15 : tie.Need-returns-15
+unfolding own-condition
+returns-15 c =
+    simp (c .enum-told15 .given .1)
+
+returns-16 : tie.Need-returns-16
+unfolding own-condition
+returns-16 c =
+    simp (c .enum-told16 .given .1)
+
+returns-17 : tie.Need-returns-17
+unfolding own-condition
+returns-17 c =
+    simp (c .before .r .given .1)
+
+returns-18 : tie.Need-returns-18
+unfolding own-condition
+returns-18 c =
+    simp (c .enum-told17 .given .1)
+
+returns-19 : tie.Need-returns-19
+unfolding own-condition
+returns-19 c =
+    simp (c .enum-told18 .given .1)
+
+returns-20 : tie.Need-returns-20
+unfolding own-condition
+returns-20 c =
+    simp (c .enum-told19 .given .1)
+
+returns-21 : tie.Need-returns-21
+unfolding own-condition
+returns-21 c =
+    simp (c .enum-told20 .given .1)
+
+pub own-condition-of-spec : {M : Type 1} → statement M
+own-condition-of-spec = tie.close (tie.spec (λ c. search needs) (λ c. search needs) (λ c. search needs) (λ c. search needs) (λ c. search needs) (λ c. search needs) (λ c. search needs) (λ c. search needs) (λ c. search needs) (λ c. search needs) (λ c. search needs) (λ c. search needs) (λ c. search needs) (λ c. search needs) (λ c. search needs) (λ c. search needs) (λ c. search needs) (λ c. search needs) (λ c. search needs) (λ c. search needs) (λ c. search needs) returns returns-2 returns-3 returns-4 returns-5 returns-6 returns-7 returns-8 returns-9 returns-10 returns-11 returns-12 returns-13 returns-14 returns-15 returns-16 returns-17 returns-18 returns-19 returns-20 returns-21)

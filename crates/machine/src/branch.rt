@@ -1,0 +1,63 @@
+// Kinds 11 to 13: m is the machine before, from which all is read, next the machine at the next record.
+
+ghost use mathlib.Core.Path.{_≡_};
+ghost use Rattle.machine.specs.Branch.{linking, direct-target, branch, register-branch, branches, compare-branch};
+use crate::Machine;
+use crate::Stepped;
+use record::BranchFields;
+use record::CompareBranchFields;
+use record::Record;
+use record::RegisterBranchFields;
+use record::op::CompareOp;
+
+fn link_if(next: Machine, links: bool) -> Machine
+    ensures { λ r. ⌜ r ≡ linking next links ⌝ }
+{
+    if links {
+        return next.write(Machine::LR, address::link(next.register(Machine::PC)));
+    }
+    next
+}
+
+fn direct_target_of(m: Machine, r: Record) -> u32
+    ensures { λ t. ⌜ t ≡ direct-target m r ⌝ }
+{
+    flow::target_of(m.register(Machine::PC), flow::way_of(r))
+}
+
+pub fn branch_off(m: Machine, next: Machine, d: BranchFields) -> Machine
+    ensures { λ r. ⌜ r ≡ branch m next d ⌝ }
+{
+    let op = d.op;
+    let to = direct_target_of(m, Record::Branch(d));
+    link_if(next, record::op::is_bl_of(op)).write(Machine::PC, to)
+}
+
+pub fn branch_to_register(m: Machine, next: Machine, d: RegisterBranchFields) -> Stepped
+    ensures { λ r. ⌜ r ≡ register-branch m next d ⌝ }
+{
+    let op = d.op;
+    let to = m.operand(d.rm);
+    let after = link_if(next, record::op::is_blx_of(op)).write(Machine::PC, to);
+    crate::access::land(m, after, to)
+}
+
+fn branches_of(op: CompareOp, x: u32) -> bool
+    ensures { λ r. ⌜ r ≡ branches op x ⌝ }
+{
+    match op {
+        CompareOp::Cbz => x == 0,
+        CompareOp::Cbnz => !(x == 0),
+    }
+}
+
+pub fn compare_and_branch(m: Machine, next: Machine, d: CompareBranchFields) -> Machine
+    ensures { λ r. ⌜ r ≡ compare-branch m next d ⌝ }
+{
+    let op = d.op;
+    let goes = branches_of(op, m.register(d.rn));
+    if goes {
+        return next.write(Machine::PC, direct_target_of(m, Record::CompareBranch(d)));
+    }
+    next
+}

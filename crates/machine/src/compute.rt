@@ -1,0 +1,174 @@
+// Kinds 01 to 0C: m is the machine before, from which all is read, next the machine at the next record.
+
+ghost use mathlib.Core.Path.{_≡_};
+ghost use Rattle.machine.specs.Compute.{flagged, resulting, data-done, shifted-register, constant-data, register-amount, register-shift, add-number, move-number, turn-done, multiply-done, long-multiply, divide-done, saturate-done, bit-field, extend-done};
+use crate::Machine;
+use product::Long;
+use record::AddNumberFields;
+use record::BitFieldFields;
+use record::ConstantFields;
+use record::DivideFields;
+use record::ExtendFields;
+use record::LongMultiplyFields;
+use record::MoveNumberFields;
+use record::MultiplyFields;
+use record::RegisterShiftFields;
+use record::SaturateFields;
+use record::ShiftedRegisterFields;
+use record::TurnFields;
+use record::op::DataOp;
+use shift::Shifted;
+use sum::Sum;
+
+fn set_flags(next: Machine, s: bool, result: Sum) -> Machine
+    ensures { λ r. ⌜ r ≡ flagged next s result ⌝ }
+{
+    if s {
+        let flags = next.flags;
+        return next.with_flags(flags.with_all(result));
+    }
+    next
+}
+
+// CMP, CMN, TST and TEQ put nothing in a register.
+fn put_result(next: Machine, op: DataOp, rd: u8, result: Sum) -> Machine
+    ensures { λ r. ⌜ r ≡ resulting next op rd result ⌝ }
+{
+    let puts = record::op::data_code_of(op) < 12;
+    if puts {
+        return next.write(rd, result.value);
+    }
+    next
+}
+
+fn operate(m: Machine, next: Machine, op: DataOp, s: bool, rd: u8, x: u32, y: Shifted) -> Machine
+    ensures { λ r. ⌜ r ≡ data-done m next op s rd x y ⌝ }
+{
+    let result = operate::operate(op, x, y, m.flags.c, m.flags.v);
+    set_flags(put_result(next, op, rd, result), s, result)
+}
+
+pub fn shift_register(m: Machine, next: Machine, d: ShiftedRegisterFields) -> Machine
+    ensures { λ r. ⌜ r ≡ shifted-register m next d ⌝ }
+{
+    let op = d.op;
+    let shift = d.shift;
+    let y = operate::shifter_of(shift, m.operand(d.rm), d.amount as u32, m.flags.c);
+    operate(m, next, op, d.form.s, d.rd, m.operand(d.rn), y)
+}
+
+pub fn operate_constant(m: Machine, next: Machine, d: ConstantFields) -> Machine
+    ensures { λ r. ⌜ r ≡ constant-data m next d ⌝ }
+{
+    let op = d.op;
+    let y = operate::constant_operand_of(d.constant, m.flags.c);
+    operate(m, next, op, d.form.s, d.rd, m.operand(d.rn), y)
+}
+
+// The amount of kind 03, of what Rs holds.
+fn register_amount_of(rs: u32) -> u32
+    ensures { λ r. ⌜ r ≡ register-amount rs ⌝ }
+{
+    rs
+}
+
+pub fn shift_by_register(m: Machine, next: Machine, d: RegisterShiftFields) -> Machine
+    ensures { λ r. ⌜ r ≡ register-shift m next d ⌝ }
+{
+    let shift = d.shift;
+    let amount = register_amount_of(m.operand(d.rs));
+    let y = operate::shifter_of(shift, m.operand(d.rn), amount, m.flags.c);
+    operate(m, next, DataOp::Mov, d.form.s, d.rd, 0, y)
+}
+
+pub fn add_a_number(m: Machine, next: Machine, d: AddNumberFields) -> Machine
+    ensures { λ r. ⌜ r ≡ add-number m next d ⌝ }
+{
+    let op = d.op;
+    next.write(d.rd, operate::add(op, m.base(d.rn), d.number as u32))
+}
+
+pub fn move_a_number(m: Machine, next: Machine, d: MoveNumberFields) -> Machine
+    ensures { λ r. ⌜ r ≡ move-number m next d ⌝ }
+{
+    let op = d.op;
+    next.write(d.rd, operate::place_number(op, m.operand(d.rd), d.number))
+}
+
+pub fn turn(m: Machine, next: Machine, d: TurnFields) -> Machine
+    ensures { λ r. ⌜ r ≡ turn-done m next d ⌝ }
+{
+    let op = d.op;
+    next.write(d.rd, operate::turn(op, m.operand(d.rm)))
+}
+
+pub fn multiply(m: Machine, next: Machine, d: MultiplyFields) -> Machine
+    ensures { λ r. ⌜ r ≡ multiply-done m next d ⌝ }
+{
+    let op = d.op;
+    let value = operate::multiply(op, m.operand(d.rn), m.operand(d.rm), m.operand(d.ra));
+    let after = next.write(d.rd, value);
+    let s = d.form.s;
+    if s {
+        let flags = after.flags;
+        return after.with_flags(flags.with_signs(value));
+    }
+    after
+}
+
+pub fn multiply_long(m: Machine, next: Machine, d: LongMultiplyFields) -> Machine
+    ensures { λ r. ⌜ r ≡ long-multiply m next d ⌝ }
+{
+    let op = d.op;
+    let before = Long {
+        low: m.operand(d.low),
+        high: m.operand(d.high),
+    };
+    let result = operate::multiply_long(op, m.operand(d.rn), m.operand(d.rm), before);
+    next.write(d.low, result.low).write(d.high, result.high)
+}
+
+pub fn divide(m: Machine, next: Machine, d: DivideFields) -> Machine
+    ensures { λ r. ⌜ r ≡ divide-done m next d ⌝ }
+{
+    let op = d.op;
+    next.write(d.rd, operate::divide(op, m.operand(d.rn), m.operand(d.rm)))
+}
+
+pub fn saturate(m: Machine, next: Machine, d: SaturateFields) -> Machine
+    ensures { λ r. ⌜ r ≡ saturate-done m next d ⌝ }
+{
+    let op = d.op;
+    let shift = d.shift;
+    let x = operate::shifter_of(shift, m.operand(d.rm), d.amount as u32, m.flags.c);
+    let result = operate::saturate(op, d.bits as u32, x.value);
+    let after = next.write(d.rd, result.value);
+    let flags = after.flags;
+    after.with_flags(flags.with_saturation(result.saturated))
+}
+
+pub fn set_field(m: Machine, next: Machine, d: BitFieldFields) -> Machine
+    ensures { λ r. ⌜ r ≡ bit-field m next d ⌝ }
+{
+    let op = d.op;
+    next.write(
+        d.rd,
+        operate::set_field(
+            op,
+            m.operand(d.rd),
+            m.operand(d.rn),
+            d.lsb as u32,
+            d.width as u32,
+        ),
+    )
+}
+
+pub fn extend(m: Machine, next: Machine, d: ExtendFields) -> Machine
+    ensures { λ r. ⌜ r ≡ extend-done m next d ⌝ }
+{
+    let op = d.op;
+    next.write(
+        d.rd,
+        operate::extend(op, m.operand(d.rm), d.rotation as u32),
+    )
+}

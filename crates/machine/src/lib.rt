@@ -1,0 +1,247 @@
+// The machine, and its step.
+
+pub mod access;
+pub mod branch;
+pub mod compute;
+
+ghost use mathlib.Core.Path.{_≡_};
+ghost use Rattle.reading.specs.declared.Read.the-variants.{Is};
+ghost use Rattle.machine.specs.Machine.{fresh, held, operand-value, base-value, kept, written, with-flags, with-waiting, good, ruling, condition-passes, advanced, skipped, onward, refused, done, steady, settled};
+ghost use Rattle.machine.specs.Access.{keeping};
+ghost use Rattle.machine.specs.Step.{effect, obeyed, considered, stepped};
+use flags::Flags;
+use memory::Setup;
+use reading::Read;
+use record::Record;
+use waiting::Waiting;
+
+pub struct Machine {
+    pub registers: [u32; 16],
+    pub flags: Flags,
+    pub waiting: Waiting,
+}
+
+// A step's number, and the machine after it.
+pub struct Stepped {
+    pub number: u32,
+    pub machine: Machine,
+}
+
+impl Machine {
+    pub const SP: u8 = 13;
+
+    pub const LR: u8 = 14;
+
+    pub const PC: u8 = 15;
+
+    pub fn new() -> Self
+        ensures { λ r. ⌜ r ≡ fresh ⌝ }
+    {
+        Machine {
+            registers: [0; 16],
+            flags: Flags::none_set(),
+            waiting: Waiting::nothing(),
+        }
+    }
+
+    // What a register holds.
+    pub fn register(self, number: u8) -> u32
+        ensures { λ r. ⌜ r ≡ held self number ⌝ }
+    {
+        let at = number as usize;
+        if at < 16 { self.registers[at] } else { 0 }
+    }
+
+    // Every register is written here.
+    pub fn write(mut self, number: u8, value: u32) -> Self
+        ensures { λ r. ⌜ r ≡ written self number value ⌝ }
+    {
+        let at = number as usize;
+        let kept = kept_of(number, value);
+        if at < 16 {
+            self.registers[at] = kept;
+        }
+        self
+    }
+
+    pub fn operand(self, number: u8) -> u32
+        ensures { λ r. ⌜ r ≡ operand-value self number ⌝ }
+    {
+        if number == Machine::PC {
+            return std::num::wrapping_add_u32(self.register(Machine::PC), 4);
+        }
+        self.register(number)
+    }
+
+    // The base of a load or of kind 04.
+    pub fn base(self, number: u8) -> u32
+        ensures { λ r. ⌜ r ≡ base-value self number ⌝ }
+    {
+        if number == Machine::PC {
+            return address::word_base(self.operand(Machine::PC));
+        }
+        self.register(number)
+    }
+
+    pub fn with_flags(mut self, flags: Flags) -> Self
+        ensures { λ r. ⌜ r ≡ with-flags self flags ⌝ }
+    {
+        self.flags = flags;
+        self
+    }
+
+    pub fn with_waiting(mut self, waiting: Waiting) -> Self
+        ensures { λ r. ⌜ r ≡ with-waiting self waiting ⌝ }
+    {
+        self.waiting = waiting;
+        self
+    }
+
+    pub fn is_good(self) -> bool
+        ensures { λ r. ⌜ r ≡ good self ⌝ }
+    {
+        let waiting = self.waiting;
+        (self.register(Machine::PC) % 2 == 0)
+            & (self.register(Machine::SP) % 4 == 0)
+            & waiting.is_good()
+    }
+
+    // Does the condition that rules a record pass?
+    pub fn passes(self, r: Record) -> bool
+        ensures { λ t. ⌜ t ≡ condition-passes self r ⌝ }
+    {
+        let flags = self.flags;
+        flags.pass(ruling_of(self.waiting, r))
+    }
+
+    // The machine at the next record.
+    fn advance(self, r: Record) -> Self
+        ensures { λ t. ⌜ t ≡ advanced self r ⌝ }
+    {
+        let next = std::num::wrapping_add_u32(
+            self.register(Machine::PC),
+            flow::machine_length_of(r),
+        );
+        self.write(Machine::PC, next)
+    }
+
+    // One step: the number, and the machine after it, or as it was.
+    pub fn step(self, r: &[u8], memory: &mut [u8], setup: Setup) -> Stepped
+        ensures { λ t. ⌜ keeping t (now (memory .exit)) ≡ stepped self (now (r .entry)) (now (memory .entry)) setup ⌝ }
+    {
+        let fine = self.is_good() & memory::is_fit(memory, setup);
+        if fine {
+            let Read::Is(found) = reading::read_all(r) else {
+                return refuse(2, self);
+            };
+            return self.consider(found, memory, setup);
+        }
+        refuse(1, self)
+    }
+
+    fn consider(self, r: Record, memory: &mut [u8], setup: Setup) -> Stepped
+        ensures { λ t. ⌜ keeping t (now (memory .exit)) ≡ considered self (Is r) (now (memory .entry)) setup ⌝ }
+    {
+        let waiting = self.waiting;
+        let number = judge::refusal_of(r, waiting.count());
+        let fine = number == 0;
+        if fine {
+            return self.obey(r, memory, setup);
+        }
+        refuse(number, self)
+    }
+
+    // The step of a record that 1 to 4 don't apply to.
+    pub fn obey(self, r: Record, memory: &mut [u8], setup: Setup) -> Stepped
+        ensures { λ t. ⌜ keeping t (now (memory .exit)) ≡ obeyed self r (now (memory .entry)) setup ⌝ }
+    {
+        let ahead = self.advance(r);
+        let passed = self.passes(r);
+        let waiting = self.waiting;
+        if passed {
+            let next = ahead.with_waiting(flow::waiting_after(r, waiting));
+            return take_effect(self, next, r, memory, setup);
+        }
+        finish(ahead.with_waiting(waiting.drop_first()))
+    }
+}
+
+// What a register keeps of a value: R15 has bit 0 cleared.
+fn kept_of(number: u8, value: u32) -> u32
+    ensures { λ r. ⌜ r ≡ kept number value ⌝ }
+{
+    if number == Machine::PC {
+        return address::even(value);
+    }
+    value
+}
+
+fn ruling_of(waiting: Waiting, r: Record) -> u8
+    ensures { λ t. ⌜ t ≡ ruling waiting r ⌝ }
+{
+    let free = waiting.first == Waiting::NONE;
+    if free {
+        return flow::own_condition_of(r);
+    }
+    waiting.first
+}
+
+pub fn refuse(number: u32, m: Machine) -> Stepped
+    ensures { λ r. ⌜ r ≡ refused number m ⌝ }
+{
+    Stepped { number, machine: m }
+}
+
+pub fn finish(m: Machine) -> Stepped
+    ensures { λ r. ⌜ r ≡ done m ⌝ }
+{
+    Stepped {
+        number: 0,
+        machine: m,
+    }
+}
+
+pub fn is_steady(next: Machine) -> bool
+    ensures { λ r. ⌜ r ≡ steady next ⌝ }
+{
+    next.register(Machine::SP) % 4 == 0
+}
+
+// The machine after the step, unless R13 would be no multiple of 4.
+pub fn settle(m: Machine, next: Machine) -> Stepped
+    ensures { λ r. ⌜ r ≡ settled m next ⌝ }
+{
+    let steady = is_steady(next);
+    if steady {
+        return finish(next);
+    }
+    refuse(7, m)
+}
+
+fn take_effect(m: Machine, next: Machine, r: Record, memory: &mut [u8], setup: Setup) -> Stepped
+    ensures { λ t. ⌜ keeping t (now (memory .exit)) ≡ effect m next r (now (memory .entry)) setup ⌝ }
+{
+    match r {
+        Record::ShiftedRegister(d) => settle(m, compute::shift_register(m, next, d)),
+        Record::Constant(d) => settle(m, compute::operate_constant(m, next, d)),
+        Record::RegisterShift(d) => settle(m, compute::shift_by_register(m, next, d)),
+        Record::AddNumber(d) => settle(m, compute::add_a_number(m, next, d)),
+        Record::MoveNumber(d) => settle(m, compute::move_a_number(m, next, d)),
+        Record::Turn(d) => settle(m, compute::turn(m, next, d)),
+        Record::Multiply(d) => settle(m, compute::multiply(m, next, d)),
+        Record::LongMultiply(d) => settle(m, compute::multiply_long(m, next, d)),
+        Record::Divide(d) => settle(m, compute::divide(m, next, d)),
+        Record::Saturate(d) => settle(m, compute::saturate(m, next, d)),
+        Record::BitField(d) => settle(m, compute::set_field(m, next, d)),
+        Record::Extend(d) => settle(m, compute::extend(m, next, d)),
+        Record::Access(d) => access::access_one(m, next, d, memory, setup),
+        Record::IndexedAccess(d) => access::access_indexed(m, next, d, memory, setup),
+        Record::DualAccess(d) => access::access_two(m, next, d, memory, setup),
+        Record::MultipleAccess(d) => access::access_many(m, next, d, memory, setup),
+        Record::Branch(d) => finish(branch::branch_off(m, next, d)),
+        Record::RegisterBranch(d) => branch::branch_to_register(m, next, d),
+        Record::CompareBranch(d) => finish(branch::compare_and_branch(m, next, d)),
+        Record::IfThen(_) => finish(next),
+        Record::Nop(_) => finish(next),
+    }
+}

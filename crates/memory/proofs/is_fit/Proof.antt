@@ -1,0 +1,11 @@
+use Rattle.memory.specs.Memory.{fits}
+use borrow.Author.Needs.{needs}
+use Rattle.memory.proofs.is_fit.Statement.{statement}
+use Rattle.memory.proofs.is_fit.Tie as tie
+
+returns : tie.Need-returns
+unfolding fits
+returns c = search needs
+
+pub is-fit-spec : {M : Type 1} → statement M
+is-fit-spec = tie.close (tie.spec (λ c. search needs) (λ c. search needs) returns)
