@@ -8,7 +8,7 @@ const FOLDER: &str = "SIMBHOKET_LIB";
 fn main() {
     println!("cargo:rerun-if-env-changed={FOLDER}");
     let Some(folder) = std::env::var_os(FOLDER) else {
-        eprintln!("{FOLDER} is not set: it names the folder of libinterface.a (tests/records)");
+        eprintln!("{FOLDER} is not set: it names the folder of libinterface.a (tests/common)");
         exit(1);
     };
     let library = Path::new(&folder).join("libinterface.a");

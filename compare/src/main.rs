@@ -2,24 +2,35 @@
 //! program. The first answer that differs ends the run with exit status 1.
 #![deny(unsafe_code)]
 
+mod bench;
+mod checks;
+mod hex;
+mod image;
 mod prng;
 #[allow(unsafe_code)]
 mod proved;
+mod question;
+mod random_record;
 mod records;
+mod steps;
+mod stock;
+mod table;
+mod worked;
 
 use std::process::ExitCode;
 
-const USAGE: &str = "usage: compare records";
+const USAGE: &str =
+    "usage: compare records | steps [SEED] | checks [SEED] | worked FILE | bench (SEED: decimal)";
+
+/// An error is a text that says what differs.
+type Outcome = Result<(), String>;
 
 fn main() -> ExitCode {
     let arguments: Vec<String> = std::env::args().skip(1).collect();
     let words: Vec<&str> = arguments.iter().map(String::as_str).collect();
-    let outcome = match words[..] {
-        ["records"] => records::run(),
-        _ => {
-            eprintln!("{USAGE}");
-            return ExitCode::from(2);
-        }
+    let Some(outcome) = outcome(&words) else {
+        eprintln!("{USAGE}");
+        return ExitCode::from(2);
     };
     match outcome {
         Ok(summary) => {
@@ -31,4 +42,19 @@ fn main() -> ExitCode {
             ExitCode::FAILURE
         }
     }
+}
+
+/// None for words that call nothing.
+fn outcome(words: &[&str]) -> Option<Result<String, String>> {
+    let outcome = match words {
+        ["records"] => records::run(),
+        ["steps"] => steps::run(steps::SEED),
+        ["steps", seed] => steps::run(seed.parse().ok()?),
+        ["checks"] => checks::run(checks::SEED),
+        ["checks", seed] => checks::run(seed.parse().ok()?),
+        ["worked", file] => worked::run(file),
+        ["bench"] => bench::run(),
+        _ => return None,
+    };
+    Some(outcome)
 }

@@ -1,11 +1,22 @@
 //! The proved functions, as include/simbhoket.h declares them. All of this program's `unsafe` is
-//! here: each function reads the lent bytes and nothing else, and answers for any bytes and numbers.
-//! A slice's pointer is not null and aligned, also where the slice is empty.
+//! here: each function reads the lent bytes and nothing else, writes none but those of a slice that
+//! is lent to be changed, and answers for any bytes and numbers. A slice's pointer is not null and
+//! aligned, also where the slice is empty.
 
 extern "C" {
     fn simbhoket_judge(record: *const u8, record_length: usize, waiting: u32) -> u32;
     fn simbhoket_measure(listing: *const u8, listing_length: usize, place: usize) -> u64;
     fn simbhoket_way(record: *const u8, record_length: usize, address: u32) -> u64;
+    fn simbhoket_step(
+        machine: *mut u8,
+        machine_length: usize,
+        record: *const u8,
+        record_length: usize,
+        memory: *mut u8,
+        memory_length: usize,
+        base: u32,
+    ) -> u32;
+    fn simbhoket_check(listing: *const u8, listing_length: usize, base: u32) -> u64;
 }
 
 /// The number of bytes that must be one record, where so many conditions wait.
@@ -24,4 +35,27 @@ pub fn measure(listing: &[u8], place: usize) -> u64 {
 pub fn way(record: &[u8], address: u32) -> u64 {
     // SAFETY: as above.
     unsafe { simbhoket_way(record.as_ptr(), record.len(), address) }
+}
+
+/// The number 0 to 7 of a step; the machine is its image.
+pub fn step(machine: &mut [u8], record: &[u8], memory: &mut [u8], base: u32) -> u32 {
+    // SAFETY: each pointer and its length are those of one slice, which outlives the call; the two
+    // slices lent to be changed are borrowed by nobody else.
+    unsafe {
+        simbhoket_step(
+            machine.as_mut_ptr(),
+            machine.len(),
+            record.as_ptr(),
+            record.len(),
+            memory.as_mut_ptr(),
+            memory.len(),
+            base,
+        )
+    }
+}
+
+/// The number of a listing's check plus 2^32 times the place.
+pub fn check(listing: &[u8], base: u32) -> u64 {
+    // SAFETY: as above.
+    unsafe { simbhoket_check(listing.as_ptr(), listing.len(), base) }
 }

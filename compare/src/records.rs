@@ -3,11 +3,11 @@
 mod answers;
 mod numbers;
 mod random;
-mod stock;
 mod sweeps;
 mod tally;
 
-use answers::{Comparison, Outcome};
+use crate::{stock, Outcome};
+use answers::Comparison;
 
 pub fn run() -> Result<String, String> {
     let mut comparison = Comparison::new();

@@ -1,11 +1,8 @@
 //! One string of bytes, put to the three functions of both sides.
 
 use super::tally::Tally;
-use crate::proved;
+use crate::{hex, proved, Outcome};
 use second::read::{read, read_one};
-
-/// An error is a text that says what differs.
-pub type Outcome = Result<(), String>;
 
 const WAITING: [u32; 5] = [0, 1, 2, 3, 4];
 const ADDRESSES: [u32; 6] = [0, 2, 0x1000, 0x7FFF_FFFE, 0xFFFF_FFFC, 0xFFFF_FFFE];
@@ -101,7 +98,6 @@ impl Comparison {
 
 #[cold]
 fn differs(question: &str, bytes: &[u8], proved: u64, second: u64) -> Outcome {
-    let hex: Vec<String> = bytes.iter().map(|byte| format!("{byte:02X}")).collect();
-    let bytes = format!("{} bytes: {}", bytes.len(), hex.join(" "));
+    let bytes = format!("{} bytes: {}", bytes.len(), hex::line(bytes));
     Err(format!("difference: {question}\n{bytes}\nproved 0x{proved:X}\nsecond 0x{second:X}"))
 }

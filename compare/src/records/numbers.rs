@@ -1,8 +1,9 @@
 //! Numbers of more than one byte, and small fields that bind each other: every value where there are
 //! few enough, else the limits, what is near them, and numbers at random.
 
-use super::answers::{Comparison, Outcome};
+use super::answers::Comparison;
 use crate::prng::Prng;
+use crate::Outcome;
 use std::ops::RangeInclusive;
 
 const SEED: u64 = 0x02_0D_10_11;

@@ -1,6 +1,7 @@
 //! Bytes near the records of the stock.
 
-use super::answers::{Comparison, Outcome};
+use super::answers::Comparison;
+use crate::Outcome;
 
 /// All registers and one more, the small limits on both sides, and the ends of a byte.
 const TELLING: [u8; 24] =

@@ -1,17 +1,9 @@
 //! How often each answer was compared, and whether that is all that paper 01 has.
 
+use crate::table::{self, KINDS, OPS};
 use std::fmt;
 
-/// "Names in a row are ops 0, 1, 2 and on": how many a kind has, from kind 01. Kinds 14 and 15 have
-/// no op byte and count as one op.
-const OPS: [u8; KINDS] = [16, 16, 4, 2, 2, 5, 3, 4, 2, 2, 4, 4, 8, 8, 2, 4, 2, 2, 2, 1, 1];
-const KINDS: usize = 21;
 const NUMBERS: [usize; 4] = [0, 2, 3, 4];
-/// B and BL, CBZ and CBNZ, and NOP stand nowhere under "Restricted"; CBZ has no R13 or R15 to name.
-const NEVER_RESTRICTED: [usize; 3] = [0x11, 0x13, 0x15];
-/// ADD and MOV to R15, MULS, LDR to R15 by two kinds, loads of 15, branches, IT. R15 as Rd of 02 and
-/// 04, and as Rt of 0F, is restricted, and 3 is lower than 4.
-const HAS_SPOTS: [usize; 9] = [0x01, 0x07, 0x0D, 0x0E, 0x10, 0x11, 0x12, 0x13, 0x14];
 
 /// Row 0 is for bytes that start with no kind.
 pub struct Tally {
@@ -39,12 +31,10 @@ impl Tally {
     }
 
     pub fn judged(&mut self, bytes: &[u8], waiting: u32, number: u32) {
-        let kind = bytes.first().map_or(0, |&kind| usize::from(kind));
-        let row = if kind <= KINDS { kind } else { 0 };
-        self.judged[row][number as usize] += 1;
+        let kind = table::kind_of(bytes);
+        self.judged[kind][number as usize] += 1;
         if number == 0 && waiting == 0 {
-            let (op, form) = if kind < 0x14 { (bytes[1], bytes[2]) } else { (0, bytes[1]) };
-            self.done[row][usize::from(op)] |= 1 << form;
+            self.done[kind][table::op_of(bytes)] |= 1 << table::form_of(bytes);
         }
     }
 
@@ -81,14 +71,9 @@ impl Tally {
     }
 }
 
+/// Number 1 is not for records.
 fn possible(kind: usize, number: usize) -> bool {
-    match number {
-        0 => kind > 0,
-        2 => true,
-        3 => kind > 0 && !NEVER_RESTRICTED.contains(&kind),
-        4 => HAS_SPOTS.contains(&kind),
-        _ => false,
-    }
+    number != 1 && table::possible(kind, number)
 }
 
 /// "S may be 1 only in 01, 02, 03 and MUL"; "for the last four .. S is 1"; "Kinds 12, 13, 14 are 2

@@ -4,8 +4,12 @@ ghost use mathlib.Core.Path.{_≡_};
 ghost use Rattle.little.specs.Little.{byte};
 ghost use Rattle.judge.specs.Judge.{judged};
 ghost use Rattle.reading.specs.Reading.{read-one, read-at};
-ghost use Rattle.interface.specs.Interface.{pair, measured, way-number, way-read};
+ghost use Rattle.word.specs.Choice.{if_then_else_};
+ghost use Rattle.image.specs.Image.{image-of};
+ghost use Rattle.interface.specs.Interface.{left, image-stepped, pair, measured, way-number, way-read};
 use flow::Way;
+use machine::Machine;
+use memory::Setup;
 use reading::Place;
 use reading::Read;
 use reading::ReadAt;
@@ -36,6 +40,29 @@ pub extern "C" fn simbhoket_way(r: &[u8], address: u32) -> u64
         return 3;
     };
     way_number_of(flow::way_of(found), address)
+}
+
+#[no_mangle]
+pub extern "C" fn simbhoket_step(machine: &mut [u8], r: &[u8], memory: &mut [u8], base: u32) -> u32
+    ensures { λ n. ⌜ left n (now (machine .exit)) (now (memory .exit)) ≡ image-stepped (now (machine .entry)) (now (r .entry)) (now (memory .entry)) (record { base = base }) ⌝ }
+{
+    let known = image::is_image_of(machine);
+    if known {
+        let before = image::read(machine);
+        let stepped = before.step(r, memory, Setup { base });
+        let number = stepped.number;
+        write_if(number == 0, machine, stepped.machine);
+        return number;
+    }
+    1
+}
+
+fn write_if(done: bool, image: &mut [u8], m: Machine)
+    ensures { λ n. ⌜ now (image .exit) ≡ (if done then image-of (now (image .entry)) m else now (image .entry)) ⌝ }
+{
+    if done {
+        image::write(image, m);
+    }
 }
 
 fn way_number_of(w: Way, address: u32) -> u64

@@ -1,0 +1,24 @@
+//! Times of several rounds, of which the one in the middle counts.
+
+use std::time::{Duration, Instant};
+
+pub struct Rounds(Vec<Duration>);
+
+impl Rounds {
+    pub fn new() -> Rounds {
+        Rounds(Vec::new())
+    }
+
+    pub fn take<T>(&mut self, round: impl FnOnce() -> T) -> T {
+        let start = Instant::now();
+        let end = round();
+        self.0.push(start.elapsed());
+        end
+    }
+}
+
+/// Of an odd number of rounds.
+pub fn median(mut rounds: Rounds) -> Duration {
+    rounds.0.sort();
+    rounds.0[rounds.0.len() / 2]
+}

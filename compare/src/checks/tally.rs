@@ -1,0 +1,63 @@
+//! How the checks ended.
+
+use std::fmt;
+
+/// What the check's table and prose tell apart.
+const ENDS: [&str; 8] = [
+    "0 accepted",
+    "1 at place 0: too long, base odd",
+    "1 at the end: end address too high",
+    "2",
+    "3",
+    "4 in the listing",
+    "4 at the end: a block left open",
+    "9",
+];
+
+pub struct Tally {
+    counts: [u64; ENDS.len()],
+    /// Numbers and places that no check gives.
+    strange: Vec<String>,
+}
+
+impl Tally {
+    pub fn new() -> Tally {
+        Tally { counts: [0; ENDS.len()], strange: Vec::new() }
+    }
+
+    pub fn check(&mut self, length: usize, number: u32, place: u32) {
+        let at_end = place as usize == length;
+        let end = match (number, place) {
+            (0, 0) => 0,
+            (1, _) if at_end && length > 0 => 2,
+            (1, 0) => 1,
+            (2, _) if !at_end => 3,
+            (3, _) if !at_end => 4,
+            (4, _) if !at_end => 5,
+            (4, _) => 6,
+            (9, _) if !at_end => 7,
+            _ => return self.strange.push(format!("{number} at {place} of {length}")),
+        };
+        self.counts[end] += 1;
+    }
+
+    pub fn listings(&self) -> u64 {
+        self.counts.iter().sum::<u64>() + self.strange.len() as u64
+    }
+
+    /// What never occurred, and what did though it cannot.
+    pub fn gaps(&self) -> Vec<String> {
+        let never = ENDS.iter().zip(self.counts).filter(|&(_, count)| count == 0);
+        let never = never.map(|(end, _)| format!("never {end}"));
+        never.chain(self.strange.iter().cloned()).collect()
+    }
+}
+
+impl fmt::Display for Tally {
+    fn fmt(&self, f: &mut fmt::Formatter<'_>) -> fmt::Result {
+        for (end, count) in ENDS.iter().zip(self.counts) {
+            writeln!(f, "{count:9} {end}")?;
+        }
+        Ok(())
+    }
+}

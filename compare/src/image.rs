@@ -1,0 +1,60 @@
+//! A machine's image as include/simbhoket.h lays it out. It is written here byte by byte and not by
+//! the second program, so that a mistake of that one's would show, and so that it can be wrong.
+
+pub const BYTES: usize = 74;
+pub const FLAGS: usize = 64;
+pub const COUNT: usize = 69;
+pub const CONDITIONS: usize = 70;
+pub const FLAG_NAMES: [&str; 5] = ["N", "Z", "C", "V", "Q"];
+
+#[derive(Clone, Copy, PartialEq, Eq)]
+pub struct Image {
+    pub registers: [u32; 16],
+    pub flags: [u8; 5],
+    pub count: u8,
+    pub conditions: [u8; 4],
+}
+
+impl Image {
+    /// "fresh is all zero with nothing waiting".
+    pub const FRESH: Image =
+        Image { registers: [0; 16], flags: [0; 5], count: 0, conditions: [0; 4] };
+
+    pub fn bytes(&self) -> Vec<u8> {
+        let mut bytes = Vec::with_capacity(BYTES);
+        for register in self.registers {
+            bytes.extend(register.to_le_bytes());
+        }
+        bytes.extend(self.flags);
+        bytes.push(self.count);
+        bytes.extend(self.conditions);
+        bytes
+    }
+}
+
+/// What stands in an image of the right length, a name and a value each.
+pub fn parts(image: &[u8; BYTES]) -> Vec<(String, String)> {
+    let mut parts = Vec::new();
+    for (register, word) in image[..FLAGS].chunks_exact(4).enumerate() {
+        let value = u32::from_le_bytes([word[0], word[1], word[2], word[3]]);
+        parts.push((format!("R{register}"), format!("{value:08X}")));
+    }
+    for (name, flag) in FLAG_NAMES.iter().zip(&image[FLAGS..COUNT]) {
+        parts.push((name.to_string(), flag.to_string()));
+    }
+    let conditions: Vec<String> = image[CONDITIONS..].iter().map(u8::to_string).collect();
+    let waiting = format!("{} of {}", image[COUNT], conditions.join(","));
+    parts.push(("wait".to_string(), waiting));
+    parts
+}
+
+pub fn text(image: &[u8]) -> String {
+    match image.try_into() {
+        Ok(image) => {
+            let parts: Vec<String> =
+                parts(image).iter().map(|(name, value)| format!("{name}={value}")).collect();
+            parts.join(" ")
+        }
+        Err(_) => format!("an image of {} bytes", image.len()),
+    }
+}

@@ -1,0 +1,61 @@
+//! What must have been among the steps done, beside every kind, op and condition: what random
+//! numbers hit only when they are aimed.
+
+/// A step done, whose condition passed.
+pub struct Look<'a> {
+    pub image: &'a [u8],
+    pub record: &'a [u8],
+}
+
+impl Look<'_> {
+    fn register(&self, register: u8) -> u32 {
+        let word = &self.image[4 * usize::from(register)..];
+        u32::from_le_bytes([word[0], word[1], word[2], word[3]])
+    }
+
+    /// The amount of kind 03.
+    fn amount(&self) -> Option<u32> {
+        match *self.record {
+            [0x03, _, _, _, _, rs] => Some(self.register(rs)),
+            _ => None,
+        }
+    }
+
+    /// The base of kind 10 is in its list, which is then not written back.
+    fn base_in_list(&self) -> bool {
+        let [_, _, _, rn, _, a, b] = *self.record else { return false };
+        self.record[0] == 0x10 && u16::from_le_bytes([a, b]) >> rn & 1 == 1
+    }
+}
+
+type Sight = (&'static str, fn(&Look) -> bool);
+
+pub const SIGHTS: [Sight; 22] = [
+    ("ADD to R13", |look| matches!(look.record, [0x01 | 0x02, 0, _, 13, ..])),
+    ("ADD to R15", |look| matches!(look.record, [0x01, 0, _, 15, ..])),
+    ("MOV to R13", |look| matches!(look.record, [0x01, 10, _, 13, ..])),
+    ("MOV to R15", |look| matches!(look.record, [0x01, 10, _, 15, ..])),
+    ("MOV from R15", |look| matches!(look.record, [0x01, 10, _, _, _, 15, ..])),
+    ("kind 04 from R15", |look| matches!(look.record, [0x04, _, _, _, 15, ..])),
+    ("kind 04 to R13", |look| matches!(look.record, [0x04, _, _, 13, ..])),
+    ("shift by 0", |look| look.amount() == Some(0)),
+    ("shift by 31", |look| look.amount() == Some(31)),
+    ("shift by 32", |look| look.amount() == Some(32)),
+    ("shift by 33", |look| look.amount() == Some(33)),
+    ("shift by more than a byte", |look| look.amount().is_some_and(|amount| amount > 255)),
+    ("division by 0", |look| matches!(*look.record, [0x09, .., rm] if look.register(rm) == 0)),
+    ("minimum by -1", |look| {
+        matches!(*look.record, [0x09, 0, _, _, rn, rm]
+            if look.register(rn) == 1 << 31 && look.register(rm) == u32::MAX)
+    }),
+    ("load from R15", |look| matches!(look.record, [0x0D, _, _, _, 15, ..])),
+    ("load of two from R15", |look| matches!(look.record, [0x0F, _, _, _, _, 15, ..])),
+    ("load to R15", |look| matches!(look.record, [0x0D | 0x0E, 0, _, 15, ..])),
+    ("load to R13", |look| matches!(look.record, [0x0D | 0x0E, 0, _, 13, ..])),
+    ("R13 written back", |look| {
+        matches!(look.record, [0x0D, _, _, _, 13, 1 | 2, ..] | [0x10, _, _, 13, 1, ..])
+    }),
+    ("R15 in a list", |look| matches!(look.record, [0x10, .., list] if list & 0x80 != 0)),
+    ("base in its list", |look| look.base_in_list()),
+    ("BLX R14", |look| matches!(look.record, [0x12, 1, _, 14])),
+];

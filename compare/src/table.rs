@@ -1,0 +1,51 @@
+//! What paper 01 lets occur: the kinds, their ops, and the numbers that a record of a kind can get.
+
+pub const KINDS: usize = 21;
+/// "Names in a row are ops 0, 1, 2 and on": how many a kind has, from kind 01. Kinds 14 and 15 have
+/// no op byte and count as one op.
+pub const OPS: [u8; KINDS] = [16, 16, 4, 2, 2, 5, 3, 4, 2, 2, 4, 4, 8, 8, 2, 4, 2, 2, 2, 1, 1];
+/// B and BL, CBZ and CBNZ, and NOP stand nowhere under "Restricted"; CBZ has no R13 or R15 to name.
+const NEVER_RESTRICTED: [usize; 3] = [0x11, 0x13, 0x15];
+/// ADD and MOV to R15, MULS, LDR to R15 by two kinds, loads of 15, branches, IT. R15 as Rd of 02 and
+/// 04, and as Rt of 0F, is restricted, and 3 is lower than 4.
+const HAS_SPOTS: [usize; 9] = [0x01, 0x07, 0x0D, 0x0E, 0x10, 0x11, 0x12, 0x13, 0x14];
+/// LDR to R15 by two kinds, pairs, multiples: the first two read and write all else unaligned.
+const ACCESSES: [usize; 4] = [0x0D, 0x0E, 0x0F, 0x10];
+/// Those that can put any value in R13, or load or move one to R15 that must be odd. A base that 0F
+/// or 10 writes back to R13 moves by a multiple of 4.
+const HAS_BAD_VALUES: [usize; 7] = [0x01, 0x02, 0x04, 0x0D, 0x0E, 0x10, 0x12];
+
+/// The kind of bytes that begin with one, else 0.
+pub fn kind_of(bytes: &[u8]) -> usize {
+    match bytes.first() {
+        Some(&kind) if usize::from(kind) <= KINDS => usize::from(kind),
+        _ => 0,
+    }
+}
+
+/// The op of a record.
+pub fn op_of(record: &[u8]) -> usize {
+    if record[0] < 0x14 {
+        usize::from(record[1])
+    } else {
+        0
+    }
+}
+
+/// The form byte of a record: bit 0 is S, bit 1 is set for 4 machine bytes.
+pub fn form_of(record: &[u8]) -> u8 {
+    record[if record[0] < 0x14 { 2 } else { 1 }]
+}
+
+/// Whether a step with bytes of this kind, 0 for none, can end with the number.
+pub fn possible(kind: usize, number: usize) -> bool {
+    match number {
+        0 => kind > 0,
+        1 | 2 => true,
+        3 => kind > 0 && !NEVER_RESTRICTED.contains(&kind),
+        4 => HAS_SPOTS.contains(&kind),
+        5 | 6 => ACCESSES.contains(&kind),
+        7 => HAS_BAD_VALUES.contains(&kind),
+        _ => false,
+    }
+}
