@@ -2,6 +2,7 @@
 
 ghost use mathlib.Core.Path.{_≡_};
 ghost use Rattle.machine.specs.Branch.{linking, direct-target, branch, register-branch, branches, compare-branch};
+ghost use Rattle.machine.specs.Machine.{done};
 use crate::Machine;
 use crate::Stepped;
 use record::BranchFields;
@@ -25,12 +26,12 @@ fn direct_target_of(m: Machine, r: Record) -> u32
     flow::target_of(m.register(Machine::PC), flow::way_of(r))
 }
 
-pub fn branch_off(m: Machine, next: Machine, d: BranchFields) -> Machine
-    ensures { λ r. ⌜ r ≡ branch m next d ⌝ }
+pub fn branch_off(m: Machine, next: Machine, d: BranchFields) -> Stepped
+    ensures { λ r. ⌜ r ≡ done (branch m next d) ⌝ }
 {
     let op = d.op;
     let to = direct_target_of(m, Record::Branch(d));
-    link_if(next, record::op::is_bl_of(op)).write(Machine::PC, to)
+    crate::finish(link_if(next, record::op::is_bl_of(op)).write(Machine::PC, to))
 }
 
 pub fn branch_to_register(m: Machine, next: Machine, d: RegisterBranchFields) -> Stepped
@@ -51,13 +52,16 @@ fn branches_of(op: CompareOp, x: u32) -> bool
     }
 }
 
-pub fn compare_and_branch(m: Machine, next: Machine, d: CompareBranchFields) -> Machine
-    ensures { λ r. ⌜ r ≡ compare-branch m next d ⌝ }
+pub fn compare_and_branch(m: Machine, next: Machine, d: CompareBranchFields) -> Stepped
+    ensures { λ r. ⌜ r ≡ done (compare-branch m next d) ⌝ }
 {
     let op = d.op;
     let goes = branches_of(op, m.register(d.rn));
     if goes {
-        return next.write(Machine::PC, direct_target_of(m, Record::CompareBranch(d)));
+        return crate::finish(next.write(
+            Machine::PC,
+            direct_target_of(m, Record::CompareBranch(d)),
+        ));
     }
-    next
+    crate::finish(next)
 }

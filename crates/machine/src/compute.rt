@@ -2,7 +2,9 @@
 
 ghost use mathlib.Core.Path.{_≡_};
 ghost use Rattle.machine.specs.Compute.{flagged, resulting, data-done, shifted-register, constant-data, register-amount, register-shift, add-number, move-number, turn-done, multiply-done, long-multiply, divide-done, saturate-done, bit-field, extend-done};
+ghost use Rattle.machine.specs.Machine.{settled};
 use crate::Machine;
+use crate::Stepped;
 use product::Long;
 use record::AddNumberFields;
 use record::BitFieldFields;
@@ -48,21 +50,21 @@ fn operate(m: Machine, next: Machine, op: DataOp, s: bool, rd: u8, x: u32, y: Sh
     set_flags(put_result(next, op, rd, result), s, result)
 }
 
-pub fn shift_register(m: Machine, next: Machine, d: ShiftedRegisterFields) -> Machine
-    ensures { λ r. ⌜ r ≡ shifted-register m next d ⌝ }
+pub fn shift_register(m: Machine, next: Machine, d: ShiftedRegisterFields) -> Stepped
+    ensures { λ r. ⌜ r ≡ settled m (shifted-register m next d) ⌝ }
 {
     let op = d.op;
     let shift = d.shift;
     let y = operate::shifter_of(shift, m.operand(d.rm), d.amount as u32, m.flags.c);
-    operate(m, next, op, d.form.s, d.rd, m.operand(d.rn), y)
+    crate::settle(m, operate(m, next, op, d.form.s, d.rd, m.operand(d.rn), y))
 }
 
-pub fn operate_constant(m: Machine, next: Machine, d: ConstantFields) -> Machine
-    ensures { λ r. ⌜ r ≡ constant-data m next d ⌝ }
+pub fn operate_constant(m: Machine, next: Machine, d: ConstantFields) -> Stepped
+    ensures { λ r. ⌜ r ≡ settled m (constant-data m next d) ⌝ }
 {
     let op = d.op;
     let y = operate::constant_operand_of(d.constant, m.flags.c);
-    operate(m, next, op, d.form.s, d.rd, m.operand(d.rn), y)
+    crate::settle(m, operate(m, next, op, d.form.s, d.rd, m.operand(d.rn), y))
 }
 
 // The amount of kind 03, of what Rs holds.
@@ -72,38 +74,44 @@ fn register_amount_of(rs: u32) -> u32
     rs
 }
 
-pub fn shift_by_register(m: Machine, next: Machine, d: RegisterShiftFields) -> Machine
-    ensures { λ r. ⌜ r ≡ register-shift m next d ⌝ }
+pub fn shift_by_register(m: Machine, next: Machine, d: RegisterShiftFields) -> Stepped
+    ensures { λ r. ⌜ r ≡ settled m (register-shift m next d) ⌝ }
 {
     let shift = d.shift;
     let amount = register_amount_of(m.operand(d.rs));
     let y = operate::shifter_of(shift, m.operand(d.rn), amount, m.flags.c);
-    operate(m, next, DataOp::Mov, d.form.s, d.rd, 0, y)
+    crate::settle(m, operate(m, next, DataOp::Mov, d.form.s, d.rd, 0, y))
 }
 
-pub fn add_a_number(m: Machine, next: Machine, d: AddNumberFields) -> Machine
-    ensures { λ r. ⌜ r ≡ add-number m next d ⌝ }
+pub fn add_a_number(m: Machine, next: Machine, d: AddNumberFields) -> Stepped
+    ensures { λ r. ⌜ r ≡ settled m (add-number m next d) ⌝ }
 {
     let op = d.op;
-    next.write(d.rd, operate::add(op, m.base(d.rn), d.number as u32))
+    crate::settle(
+        m,
+        next.write(d.rd, operate::add(op, m.base(d.rn), d.number as u32)),
+    )
 }
 
-pub fn move_a_number(m: Machine, next: Machine, d: MoveNumberFields) -> Machine
-    ensures { λ r. ⌜ r ≡ move-number m next d ⌝ }
+pub fn move_a_number(m: Machine, next: Machine, d: MoveNumberFields) -> Stepped
+    ensures { λ r. ⌜ r ≡ settled m (move-number m next d) ⌝ }
 {
     let op = d.op;
-    next.write(d.rd, operate::place_number(op, m.operand(d.rd), d.number))
+    crate::settle(
+        m,
+        next.write(d.rd, operate::place_number(op, m.operand(d.rd), d.number)),
+    )
 }
 
-pub fn turn(m: Machine, next: Machine, d: TurnFields) -> Machine
-    ensures { λ r. ⌜ r ≡ turn-done m next d ⌝ }
+pub fn turn(m: Machine, next: Machine, d: TurnFields) -> Stepped
+    ensures { λ r. ⌜ r ≡ settled m (turn-done m next d) ⌝ }
 {
     let op = d.op;
-    next.write(d.rd, operate::turn(op, m.operand(d.rm)))
+    crate::settle(m, next.write(d.rd, operate::turn(op, m.operand(d.rm))))
 }
 
-pub fn multiply(m: Machine, next: Machine, d: MultiplyFields) -> Machine
-    ensures { λ r. ⌜ r ≡ multiply-done m next d ⌝ }
+pub fn multiply(m: Machine, next: Machine, d: MultiplyFields) -> Stepped
+    ensures { λ r. ⌜ r ≡ settled m (multiply-done m next d) ⌝ }
 {
     let op = d.op;
     let value = operate::multiply(op, m.operand(d.rn), m.operand(d.rm), m.operand(d.ra));
@@ -111,13 +119,13 @@ pub fn multiply(m: Machine, next: Machine, d: MultiplyFields) -> Machine
     let s = d.form.s;
     if s {
         let flags = after.flags;
-        return after.with_flags(flags.with_signs(value));
+        return crate::settle(m, after.with_flags(flags.with_signs(value)));
     }
-    after
+    crate::settle(m, after)
 }
 
-pub fn multiply_long(m: Machine, next: Machine, d: LongMultiplyFields) -> Machine
-    ensures { λ r. ⌜ r ≡ long-multiply m next d ⌝ }
+pub fn multiply_long(m: Machine, next: Machine, d: LongMultiplyFields) -> Stepped
+    ensures { λ r. ⌜ r ≡ settled m (long-multiply m next d) ⌝ }
 {
     let op = d.op;
     let before = Long {
@@ -125,18 +133,21 @@ pub fn multiply_long(m: Machine, next: Machine, d: LongMultiplyFields) -> Machin
         high: m.operand(d.high),
     };
     let result = operate::multiply_long(op, m.operand(d.rn), m.operand(d.rm), before);
-    next.write(d.low, result.low).write(d.high, result.high)
+    crate::settle(m, next.write(d.low, result.low).write(d.high, result.high))
 }
 
-pub fn divide(m: Machine, next: Machine, d: DivideFields) -> Machine
-    ensures { λ r. ⌜ r ≡ divide-done m next d ⌝ }
+pub fn divide(m: Machine, next: Machine, d: DivideFields) -> Stepped
+    ensures { λ r. ⌜ r ≡ settled m (divide-done m next d) ⌝ }
 {
     let op = d.op;
-    next.write(d.rd, operate::divide(op, m.operand(d.rn), m.operand(d.rm)))
+    crate::settle(
+        m,
+        next.write(d.rd, operate::divide(op, m.operand(d.rn), m.operand(d.rm))),
+    )
 }
 
-pub fn saturate(m: Machine, next: Machine, d: SaturateFields) -> Machine
-    ensures { λ r. ⌜ r ≡ saturate-done m next d ⌝ }
+pub fn saturate(m: Machine, next: Machine, d: SaturateFields) -> Stepped
+    ensures { λ r. ⌜ r ≡ settled m (saturate-done m next d) ⌝ }
 {
     let op = d.op;
     let shift = d.shift;
@@ -144,31 +155,27 @@ pub fn saturate(m: Machine, next: Machine, d: SaturateFields) -> Machine
     let result = operate::saturate(op, d.bits as u32, x.value);
     let after = next.write(d.rd, result.value);
     let flags = after.flags;
-    after.with_flags(flags.with_saturation(result.saturated))
+    crate::settle(m, after.with_flags(flags.with_saturation(result.saturated)))
 }
 
-pub fn set_field(m: Machine, next: Machine, d: BitFieldFields) -> Machine
-    ensures { λ r. ⌜ r ≡ bit-field m next d ⌝ }
+pub fn set_field(m: Machine, next: Machine, d: BitFieldFields) -> Stepped
+    ensures { λ r. ⌜ r ≡ settled m (bit-field m next d) ⌝ }
 {
     let op = d.op;
-    next.write(
-        d.rd,
-        operate::set_field(
-            op,
-            m.operand(d.rd),
-            m.operand(d.rn),
-            d.lsb as u32,
-            d.width as u32,
-        ),
-    )
+    let value = operate::set_field(
+        op,
+        m.operand(d.rd),
+        m.operand(d.rn),
+        d.lsb as u32,
+        d.width as u32,
+    );
+    crate::settle(m, next.write(d.rd, value))
 }
 
-pub fn extend(m: Machine, next: Machine, d: ExtendFields) -> Machine
-    ensures { λ r. ⌜ r ≡ extend-done m next d ⌝ }
+pub fn extend(m: Machine, next: Machine, d: ExtendFields) -> Stepped
+    ensures { λ r. ⌜ r ≡ settled m (extend-done m next d) ⌝ }
 {
     let op = d.op;
-    next.write(
-        d.rd,
-        operate::extend(op, m.operand(d.rm), d.rotation as u32),
-    )
+    let value = operate::extend(op, m.operand(d.rm), d.rotation as u32);
+    crate::settle(m, next.write(d.rd, value))
 }

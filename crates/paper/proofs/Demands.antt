@@ -70,7 +70,7 @@ of-storing : (m next : Machine) (bytes after : List ℕ) → AsGiven m bytes (st
 unfolding storing
 of-storing m next bytes after =
     either m bytes (steady next) (record { answer = done next; memory = after }) (keeping (refused 7 m) bytes)
-      (of-done m next bytes after) (of-refused m bytes 7)
+    (of-done m next bytes after) (of-refused m bytes 7)
 
 of-arriving : (m back : Machine) (rt value : ℕ) (bytes : List ℕ) → AsGiven m bytes (keeping (arriving m back rt value) bytes)
 unfolding arriving
@@ -82,8 +82,8 @@ of-access-made : (m back : Machine) (op : AccessOp) (rt address : ℕ) (bytes : 
 unfolding access-made
 of-access-made m back op rt address bytes setup =
     either m bytes (loads op) _ _
-      (of-arriving m back rt (load-value op setup bytes address) bytes)
-      (of-storing m back bytes (after-store op setup bytes address (held m rt)))
+    (of-arriving m back rt (load-value op setup bytes address) bytes)
+    (of-storing m back bytes (after-store op setup bytes address (held m rt)))
 
 of-access-done : (m back : Machine) (op : AccessOp) (rt address : ℕ) (bytes : List ℕ) (setup : Setup)
     → AsGiven m bytes (access-done m back op rt address bytes setup)
@@ -112,8 +112,8 @@ of-dual-made m back d address bytes setup =
     let second = further address 4 in
     let both = written (written back (d .rt) (loaded 4 setup bytes address)) (d .rt2) (loaded 4 setup bytes second) in
     either m bytes (loads-dual (d .op)) _ _
-      (of-settled m both bytes)
-      (of-storing m back bytes (stored 4 setup (stored 4 setup bytes address (held m (d .rt))) second (held m (d .rt2))))
+    (of-settled m both bytes)
+    (of-storing m back bytes (stored 4 setup (stored 4 setup bytes address (held m (d .rt))) second (held m (d .rt2))))
 
 of-dual : (m next : Machine) (d : DualAccessFields) (bytes : List ℕ) (setup : Setup) → AsGiven m bytes (dual-access m next d bytes setup)
 unfolding dual-access
@@ -123,8 +123,8 @@ of-dual m next d bytes setup =
     let address = reached (d .mode) base to in
     let refusal = access-refusal true 8 setup (length bytes) address in
     either m bytes (eqb refusal 0) _ _
-      (of-dual-made m (based next (d .mode) (d .rn) to) d address bytes setup)
-      (of-refused m bytes refusal)
+    (of-dual-made m (based next (d .mode) (d .rn) to) d address bytes setup)
+    (of-refused m bytes refusal)
 
 of-list-arriving : (m back : Machine) (list low : ℕ) (bytes : List ℕ) (setup : Setup)
     → AsGiven m bytes (keeping (list-arriving m back list low bytes setup) bytes)
@@ -138,8 +138,8 @@ of-multiple-made : (m back : Machine) (d : MultipleAccessFields) (low : ℕ) (by
 unfolding multiple-made
 of-multiple-made m back d low bytes setup =
     either m bytes (loads-many (d .op)) _ _
-      (of-list-arriving m back (d .list) low bytes setup)
-      (of-storing m back bytes (list-stored 16 setup bytes (m .registers) (d .list) low))
+    (of-list-arriving m back (d .list) low bytes setup)
+    (of-storing m back bytes (list-stored 16 setup bytes (m .registers) (d .list) low))
 
 of-multiple : (m next : Machine) (d : MultipleAccessFields) (bytes : List ℕ) (setup : Setup) → AsGiven m bytes (multiple-access m next d bytes setup)
 unfolding multiple-access
@@ -186,8 +186,8 @@ of-considered m Refused bytes setup = of-refused m bytes 2
 of-considered m (Is r) bytes setup =
     let number = refusal r (waiting-count (m .waiting)) in
     either m bytes (eqb number 0) _ _
-      (either m bytes (condition-passes m r) _ _ (of-effect m (onward m r) r bytes setup) (of-done m (skipped m r) bytes bytes))
-      (of-refused m bytes number)
+    (either m bytes (condition-passes m r) _ _ (of-effect m (onward m r) r bytes setup) (of-done m (skipped m r) bytes bytes))
+    (of-refused m bytes number)
 
 pub refused-as-given : RefusedAsGiven
 unfolding stepped

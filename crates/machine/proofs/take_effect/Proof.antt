@@ -5,111 +5,51 @@ use Rattle.machine.proofs.take_effect.Tie as tie
 
 returns : tie.Need-returns
 unfolding effect
-returns c =
-    rw (
-      c .before .before .before .r .given .1,
-      ← c .before .shift-register .ensures,
-      ← c .settle .ensures,
-    )
+returns c = rw (c .before .before .r .given .1, ← c .shift-register .ensures)
 
 returns-2 : tie.Need-returns-2
 unfolding effect
-returns-2 c =
-    rw (
-      c .before .before .before .r2 .given .1,
-      ← c .before .operate-constant .ensures,
-      ← c .settle2 .ensures,
-    )
+returns-2 c = rw (c .before .before .r2 .given .1, ← c .operate-constant .ensures)
 
 returns-3 : tie.Need-returns-3
 unfolding effect
-returns-3 c =
-    rw (
-      c .before .before .before .r3 .given .1,
-      ← c .before .shift-by-register .ensures,
-      ← c .settle3 .ensures,
-    )
+returns-3 c = rw (c .before .before .r3 .given .1, ← c .shift-by-register .ensures)
 
 returns-4 : tie.Need-returns-4
 unfolding effect
-returns-4 c =
-    rw (
-      c .before .before .before .r4 .given .1,
-      ← c .before .add-a-number .ensures,
-      ← c .settle4 .ensures,
-    )
+returns-4 c = rw (c .before .before .r4 .given .1, ← c .add-a-number .ensures)
 
 returns-5 : tie.Need-returns-5
 unfolding effect
-returns-5 c =
-    rw (
-      c .before .before .before .r5 .given .1,
-      ← c .before .move-a-number .ensures,
-      ← c .settle5 .ensures,
-    )
+returns-5 c = rw (c .before .before .r5 .given .1, ← c .move-a-number .ensures)
 
 returns-6 : tie.Need-returns-6
 unfolding effect
-returns-6 c =
-    rw (
-      c .before .before .before .r6 .given .1,
-      ← c .before .turn .ensures,
-      ← c .settle6 .ensures,
-    )
+returns-6 c = rw (c .before .before .r6 .given .1, ← c .turn .ensures)
 
 returns-7 : tie.Need-returns-7
 unfolding effect
-returns-7 c =
-    rw (
-      c .before .before .before .r7 .given .1,
-      ← c .before .multiply .ensures,
-      ← c .settle7 .ensures,
-    )
+returns-7 c = rw (c .before .before .r7 .given .1, ← c .multiply .ensures)
 
 returns-8 : tie.Need-returns-8
 unfolding effect
-returns-8 c =
-    rw (
-      c .before .before .before .r8 .given .1,
-      ← c .before .multiply-long .ensures,
-      ← c .settle8 .ensures,
-    )
+returns-8 c = rw (c .before .before .r8 .given .1, ← c .multiply-long .ensures)
 
 returns-9 : tie.Need-returns-9
 unfolding effect
-returns-9 c =
-    rw (
-      c .before .before .before .r9 .given .1,
-      ← c .before .divide .ensures,
-      ← c .settle9 .ensures,
-    )
+returns-9 c = rw (c .before .before .r9 .given .1, ← c .divide .ensures)
 
 returns-10 : tie.Need-returns-10
 unfolding effect
-returns-10 c =
-    rw (
-      c .before .before .before .r10 .given .1,
-      ← c .before .saturate .ensures,
-      ← c .settle10 .ensures,
-    )
+returns-10 c = rw (c .before .before .r10 .given .1, ← c .saturate .ensures)
 
 returns-11 : tie.Need-returns-11
 unfolding effect
-returns-11 c =
-    rw (
-      c .before .before .before .r11 .given .1,
-      ← c .before .set-field .ensures,
-      ← c .settle11 .ensures,
-    )
+returns-11 c = rw (c .before .before .r11 .given .1, ← c .set-field .ensures)
 
 returns-12 : tie.Need-returns-12
 unfolding effect
-returns-12 c =
-    rw (
-      c .before .before .before .r12 .given .1,
-      ← c .before .extend .ensures,
-      ← c .settle12 .ensures,
-    )
+returns-12 c = rw (c .before .before .r12 .given .1, ← c .extend .ensures)
 
 returns-13 : tie.Need-returns-13
 unfolding effect
@@ -145,12 +85,7 @@ returns-16 c =
 
 returns-17 : tie.Need-returns-17
 unfolding effect
-returns-17 c =
-    rw (
-      c .before .before .before .r17 .given .1,
-      ← c .before .branch-off .ensures,
-      ← c .finish .ensures,
-    )
+returns-17 c = rw (c .before .before .r17 .given .1, ← c .branch-off .ensures)
 
 returns-18 : tie.Need-returns-18
 unfolding effect
@@ -162,22 +97,17 @@ returns-18 c =
 
 returns-19 : tie.Need-returns-19
 unfolding effect
-returns-19 c =
-    rw (
-      c .before .before .before .r19 .given .1,
-      ← c .before .compare-and-branch .ensures,
-      ← c .finish2 .ensures,
-    )
+returns-19 c = rw (c .before .before .r19 .given .1, ← c .compare-and-branch .ensures)
 
 returns-20 : tie.Need-returns-20
 unfolding effect
 returns-20 c =
-    rw (c .before .enum-told .given .1, ← c .finish3 .ensures)
+    rw (c .before .enum-told .given .1, ← c .finish .ensures)
 
 returns-21 : tie.Need-returns-21
 unfolding effect
 returns-21 c =
-    rw (c .before .enum-told2 .given .1, ← c .finish4 .ensures)
+    rw (c .before .enum-told2 .given .1, ← c .finish2 .ensures)
 
 pub take-effect-spec : {M : Type 1} → statement M
-take-effect-spec = tie.close (tie.spec (λ c. search needs) (λ c κs. search needs) (λ c κs. search needs) (λ c. search needs) (λ c κs. search needs) (λ c κs. search needs) (λ c. search needs) (λ c κs. search needs) (λ c κs. search needs) (λ c. search needs) (λ c κs. search needs) (λ c κs. search needs) (λ c. search needs) (λ c κs. search needs) (λ c κs. search needs) (λ c. search needs) (λ c κs. search needs) (λ c κs. search needs) (λ c. search needs) (λ c κs. search needs) (λ c κs. search needs) (λ c. search needs) (λ c κs. search needs) (λ c κs. search needs) (λ c. search needs) (λ c κs. search needs) (λ c κs. search needs) (λ c. search needs) (λ c κs. search needs) (λ c κs. search needs) (λ c. search needs) (λ c κs. search needs) (λ c κs. search needs) (λ c. search needs) (λ c κs. search needs) (λ c κs. search needs) (λ c. search needs) (λ c κs. search needs) (λ c. search needs) (λ c κs. search needs) (λ c. search needs) (λ c κs. search needs) (λ c. search needs) (λ c κs. search needs) (λ c. search needs) (λ c κs. search needs) (λ c κs. search needs) (λ c. search needs) (λ c κs. search needs) (λ c. search needs) (λ c κs. search needs) (λ c κs. search needs) (λ c. search needs) (λ c κs. search needs) (λ c. search needs) (λ c κs. search needs) returns returns-2 returns-3 returns-4 returns-5 returns-6 returns-7 returns-8 returns-9 returns-10 returns-11 returns-12 (λ c. search needs) returns-13 (λ c. search needs) returns-14 (λ c. search needs) returns-15 (λ c. search needs) returns-16 returns-17 returns-18 returns-19 returns-20 returns-21)
+take-effect-spec = tie.close (tie.spec (λ c. search needs) (λ c κs. search needs) (λ c. search needs) (λ c κs. search needs) (λ c. search needs) (λ c κs. search needs) (λ c. search needs) (λ c κs. search needs) (λ c. search needs) (λ c κs. search needs) (λ c. search needs) (λ c κs. search needs) (λ c. search needs) (λ c κs. search needs) (λ c. search needs) (λ c κs. search needs) (λ c. search needs) (λ c κs. search needs) (λ c. search needs) (λ c κs. search needs) (λ c. search needs) (λ c κs. search needs) (λ c. search needs) (λ c κs. search needs) (λ c. search needs) (λ c κs. search needs) (λ c. search needs) (λ c κs. search needs) (λ c. search needs) (λ c κs. search needs) (λ c. search needs) (λ c κs. search needs) (λ c. search needs) (λ c κs. search needs) (λ c. search needs) (λ c κs. search needs) (λ c. search needs) (λ c κs. search needs) (λ c. search needs) (λ c κs. search needs) (λ c. search needs) (λ c κs. search needs) returns returns-2 returns-3 returns-4 returns-5 returns-6 returns-7 returns-8 returns-9 returns-10 returns-11 returns-12 (λ c. search needs) returns-13 (λ c. search needs) returns-14 (λ c. search needs) returns-15 (λ c. search needs) returns-16 returns-17 returns-18 returns-19 returns-20 returns-21)

@@ -7,11 +7,12 @@ returns : tie.Need-returns
 unfolding branch
 returns c =
     rw (
-      c .write .ensures,
-      c .before .link-if .ensures,
-      c .before .before .is-bl-of .ensures,
-      c .before .before .before .direct-target-of .ensures,
+      c .finish .ensures,
+      c .before .write .ensures,
+      c .before .before .link-if .ensures,
+      c .before .before .before .is-bl-of .ensures,
+      c .before .before .before .before .direct-target-of .ensures,
     )
 
 pub branch-off-spec : {M : Type 1} → statement M
-branch-off-spec = tie.close (tie.spec (λ c κs. search needs) (λ c κs. search needs) (λ c κs. search needs) (λ c κs. search needs) returns)
+branch-off-spec = tie.close (tie.spec (λ c κs. search needs) (λ c κs. search needs) (λ c κs. search needs) (λ c κs. search needs) (λ c κs. search needs) returns)

@@ -6,10 +6,11 @@ use Rattle.machine.proofs.branch.compare_and_branch.Tie as tie
 returns : tie.Need-returns
 unfolding compare-branch
 returns c =
-    let s = c .before .before in
+    let s = c .before .before .before in
     rw (
-      c .write .ensures,
-      c .before .direct-target-of .ensures,
+      c .finish .ensures,
+      c .before .write .ensures,
+      c .before .before .direct-target-of .ensures,
       ← s .before .before .register .ensures,
       ← s .before .branches-of .ensures,
       s .if1 .taken,
@@ -17,7 +18,8 @@ returns c =
 
 returns-2 : tie.Need-returns-2
 unfolding compare-branch
-returns-2 c = rw (← c .before .before .register .ensures, ← c .before .branches-of .ensures, c .if1 .left)
+returns-2 c =
+    rw (c .finish2 .ensures, ← c .before .before .before .register .ensures, ← c .before .before .branches-of .ensures, c .before .if1 .left)
 
 pub compare-and-branch-spec : {M : Type 1} → statement M
-compare-and-branch-spec = tie.close (tie.spec (λ c κs. search needs) (λ c κs. search needs) (λ c κs. search needs) (λ c κs. search needs) returns returns-2)
+compare-and-branch-spec = tie.close (tie.spec (λ c κs. search needs) (λ c κs. search needs) (λ c κs. search needs) (λ c κs. search needs) (λ c κs. search needs) returns (λ c κs. search needs) returns-2)

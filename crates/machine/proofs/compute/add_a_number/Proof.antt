@@ -6,7 +6,7 @@ use Rattle.machine.proofs.compute.add_a_number.Tie as tie
 returns : tie.Need-returns
 unfolding add-number
 returns c =
-    simp (c .write .ensures, c .before .add .ensures, c .before .before .before .base .ensures)
+    rw (c .settle .ensures, c .before .write .ensures, c .before .before .add .ensures, c .before .before .before .before .base .ensures)
 
 pub add-a-number-spec : {M : Type 1} → statement M
-add-a-number-spec = tie.close (tie.spec (λ c κs. search needs) (λ c. search needs) (λ c κs. search needs) (λ c κs. search needs) returns)
+add-a-number-spec = tie.close (tie.spec (λ c κs. search needs) (λ c. search needs) (λ c κs. search needs) (λ c κs. search needs) (λ c κs. search needs) returns)

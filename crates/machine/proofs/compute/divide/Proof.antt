@@ -6,7 +6,7 @@ use Rattle.machine.proofs.compute.divide.Tie as tie
 returns : tie.Need-returns
 unfolding divide-done
 returns c =
-    simp (c .write .ensures, c .before .divide .ensures, c .before .before .operand2 .ensures, c .before .before .before .operand .ensures)
+    rw (c .settle .ensures, c .before .write .ensures, c .before .before .divide .ensures, c .before .before .before .operand2 .ensures, c .before .before .before .before .operand .ensures)
 
 pub divide-spec : {M : Type 1} → statement M
-divide-spec = tie.close (tie.spec (λ c κs. search needs) (λ c κs. search needs) (λ c κs. search needs) (λ c κs. search needs) returns)
+divide-spec = tie.close (tie.spec (λ c κs. search needs) (λ c κs. search needs) (λ c κs. search needs) (λ c κs. search needs) (λ c κs. search needs) returns)

@@ -6,12 +6,12 @@ use Rattle.machine.proofs.compute.multiply.Tie as tie
 returns : tie.Need-returns
 unfolding multiply-done
 returns c =
-    rw (← c .before .before .before .before .before .before .before .before .operand .ensures, ← c .before .before .before .before .before .before .before .operand2 .ensures, ← c .before .before .before .before .before .before .operand3 .ensures, ← c .before .before .before .before .before .multiply .ensures, ← c .before .before .before .before .write .ensures, c .before .before .before .if1 .taken, ← c .before .with-signs .ensures, ← c .with-flags .ensures)
+    rw (← c .before .before .before .before .before .before .before .before .before .operand .ensures, ← c .before .before .before .before .before .before .before .before .operand2 .ensures, ← c .before .before .before .before .before .before .before .operand3 .ensures, ← c .before .before .before .before .before .before .multiply .ensures, ← c .before .before .before .before .before .write .ensures, c .before .before .before .before .if1 .taken, ← c .before .before .with-signs .ensures, ← c .before .with-flags .ensures, ← c .settle .ensures)
 
 returns-2 : tie.Need-returns-2
 unfolding multiply-done
 returns-2 c =
-    rw (← c .before .before .before .before .before .operand .ensures, ← c .before .before .before .before .operand2 .ensures, ← c .before .before .before .operand3 .ensures, ← c .before .before .multiply .ensures, ← c .before .write .ensures, c .if1 .left)
+    rw (← c .before .before .before .before .before .before .operand .ensures, ← c .before .before .before .before .before .operand2 .ensures, ← c .before .before .before .before .operand3 .ensures, ← c .before .before .before .multiply .ensures, ← c .before .before .write .ensures, c .before .if1 .left, ← c .settle2 .ensures)
 
 pub multiply-spec : {M : Type 1} → statement M
-multiply-spec = tie.close (tie.spec (λ c κs. search needs) (λ c κs. search needs) (λ c κs. search needs) (λ c κs. search needs) (λ c κs. search needs) (λ c κs. search needs) (λ c κs. search needs) returns returns-2)
+multiply-spec = tie.close (tie.spec (λ c κs. search needs) (λ c κs. search needs) (λ c κs. search needs) (λ c κs. search needs) (λ c κs. search needs) (λ c κs. search needs) (λ c κs. search needs) (λ c κs. search needs) returns (λ c κs. search needs) returns-2)

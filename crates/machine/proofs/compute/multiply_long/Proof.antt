@@ -7,14 +7,15 @@ returns : tie.Need-returns
 unfolding long-multiply
 returns c =
     rw (
-      c .write2 .ensures,
-      c .before .write .ensures,
-      c .before .before .multiply-long .ensures,
-      c .before .before .before .operand4 .ensures,
-      c .before .before .before .before .operand3 .ensures,
-      c .before .before .before .before .before .operand2 .ensures,
-      c .before .before .before .before .before .before .operand .ensures,
+      c .settle .ensures,
+      c .before .write2 .ensures,
+      c .before .before .write .ensures,
+      c .before .before .before .multiply-long .ensures,
+      c .before .before .before .before .operand4 .ensures,
+      c .before .before .before .before .before .operand3 .ensures,
+      c .before .before .before .before .before .before .operand2 .ensures,
+      c .before .before .before .before .before .before .before .operand .ensures,
     )
 
 pub multiply-long-spec : {M : Type 1} → statement M
-multiply-long-spec = tie.close (tie.spec (λ c κs. search needs) (λ c κs. search needs) (λ c κs. search needs) (λ c κs. search needs) (λ c κs. search needs) (λ c κs. search needs) (λ c κs. search needs) returns)
+multiply-long-spec = tie.close (tie.spec (λ c κs. search needs) (λ c κs. search needs) (λ c κs. search needs) (λ c κs. search needs) (λ c κs. search needs) (λ c κs. search needs) (λ c κs. search needs) (λ c κs. search needs) returns)

@@ -6,7 +6,7 @@ use Rattle.machine.proofs.compute.set_field.Tie as tie
 returns : tie.Need-returns
 unfolding bit-field
 returns c =
-    simp (c .write .ensures, c .before .set-field .ensures, c .before .before .before .before .operand2 .ensures, c .before .before .before .before .before .operand .ensures)
+    rw (c .settle .ensures, c .before .write .ensures, c .before .before .set-field .ensures, c .before .before .before .before .before .operand2 .ensures, c .before .before .before .before .before .before .operand .ensures)
 
 pub set-field-spec : {M : Type 1} → statement M
-set-field-spec = tie.close (tie.spec (λ c κs. search needs) (λ c κs. search needs) (λ c. search needs) (λ c. search needs) (λ c κs. search needs) (λ c κs. search needs) returns)
+set-field-spec = tie.close (tie.spec (λ c κs. search needs) (λ c κs. search needs) (λ c. search needs) (λ c. search needs) (λ c κs. search needs) (λ c κs. search needs) (λ c κs. search needs) returns)

@@ -6,7 +6,7 @@ use Rattle.machine.proofs.compute.turn.Tie as tie
 returns : tie.Need-returns
 unfolding turn-done
 returns c =
-    simp (c .write .ensures, c .before .turn .ensures, c .before .before .operand .ensures)
+    rw (c .settle .ensures, c .before .write .ensures, c .before .before .turn .ensures, c .before .before .before .operand .ensures)
 
 pub turn-spec : {M : Type 1} → statement M
-turn-spec = tie.close (tie.spec (λ c κs. search needs) (λ c κs. search needs) (λ c κs. search needs) returns)
+turn-spec = tie.close (tie.spec (λ c κs. search needs) (λ c κs. search needs) (λ c κs. search needs) (λ c κs. search needs) returns)
