@@ -10,6 +10,7 @@ use Rattle.memory.specs.declared.Setup.{Setup}
 use Rattle.machine.specs.Access.{Outcome}
 use Rattle.machine.specs.Step.{stepped}
 use Rattle.image.specs.Image.{is-image, machine-of, image-of}
+use Rattle.listing.specs.declared.Checked.{Checked}
 use Rattle.kinds.specs.Kinds.{listing-length}
 use Rattle.reading.specs.declared.Read.{Read}
 use Rattle.reading.specs.declared.Read.the-variants.{Is, Refused}
@@ -53,3 +54,7 @@ way-number Taken address = 2
 unfoldable pub way-read : Read → ℕ → ℕ
 way-read (Is r) address = way-number (way r) address
 way-read Refused address = 3
+
+-- the number plus 2^32 times the place
+unfoldable pub reported : Checked → ℕ
+reported answer = pair (answer .number) (answer .place .0)

@@ -6,7 +6,8 @@ ghost use Rattle.judge.specs.Judge.{judged};
 ghost use Rattle.reading.specs.Reading.{read-one, read-at};
 ghost use Rattle.word.specs.Choice.{if_then_else_};
 ghost use Rattle.image.specs.Image.{image-of};
-ghost use Rattle.interface.specs.Interface.{left, image-stepped, pair, measured, way-number, way-read};
+ghost use Rattle.listing.specs.Check.{checked};
+ghost use Rattle.interface.specs.Interface.{left, image-stepped, pair, measured, way-number, way-read, reported};
 use flow::Way;
 use machine::Machine;
 use memory::Setup;
@@ -40,6 +41,14 @@ pub extern "C" fn simbhoket_way(r: &[u8], address: u32) -> u64
         return 3;
     };
     way_number_of(flow::way_of(found), address)
+}
+
+#[no_mangle]
+pub extern "C" fn simbhoket_check(listing: &[u8], base: u32) -> u64
+    ensures { λ n. ⌜ n ≡ reported (checked (now (listing .entry)) base) ⌝ }
+{
+    let answer = listing::check(listing, base);
+    pair_of(answer.number, answer.place.0 as u32)
 }
 
 #[no_mangle]

@@ -1,0 +1,76 @@
+-- Blocks along the layout: at each point the conditions that wait stand in front, so where none is counted nothing waits.
+use Prim.Native.Nat.{ℕ, _≤_}
+use mathlib.Core.Path.{_≡_, refl, sym, ap, _∙_}
+use mathlib.Core.Bool.{Bool, true, false, not, _&&_, _||_}
+use mathlib.Core.List.{List}
+use native.Mathlib.Omega.{arith}
+use borrow.Author.Tests.{eqb-true, eq-eqb, leb-true, leb-false}
+use lib.Dec.{eqb, leb}
+use Rattle.word.proofs.Cases.{cases, both-true, either-true, neither}
+use Rattle.waiting.specs.Waiting.{nothing, waiting-count, dropped, block}
+use Rattle.waiting.specs.declared.Waiting.{Waiting}
+use Rattle.waiting.proofs.Laws.{Packed, packed-nothing, packed-dropped, packed-block, packed-none, packed-one}
+use Rattle.record.specs.declared.IfThenFields.{IfThenFields}
+use Rattle.record.specs.declared.Record.{Record}
+use Rattle.record.specs.declared.Record.the-variants.{IfThen}
+use Rattle.fields.specs.Fields.{well-formed, elses-fit}
+use Rattle.restricted.specs.Restricted.{allowed}
+use Rattle.flow.specs.Flow.{after, alone, leaves, way, misplaced}
+use Rattle.flow.proofs.Laws.{after-holds}
+use Rattle.reading.proofs.Places.{ahead}
+use Rattle.judge.proofs.Laws.{not-refused}
+use Rattle.layout.specs.declared.Point.{Point}
+use Rattle.layout.specs.Layout.{Onward, start, next, meets}
+use Rattle.layout.proofs.Points.{Onto, onto}
+use Rattle.layout.proofs.Members.{On, on-holds}
+
+-- the fields of an IT record that may stand
+condition-known : (d : IfThenFields) → well-formed (IfThen d) ≡ true → d .condition ≤ 14
+unfolding well-formed
+condition-known d e =
+    let form = not (d .form .s) && not (d .form .wide) in
+    let known = leb (d .condition) 14 in
+    let some = leb 1 (d .count) in
+    let few = leb (d .count) 4 in
+    let a = both-true (form && known && some && few) (elses-fit (d .elses) (d .count)) e .0 in
+    let b = both-true (form && known && some) few a .0 in
+    let c = both-true (form && known) some b .0 in
+    leb-true (d .condition) 14 (both-true form known c .1)
+
+no-else : (d : IfThenFields) → allowed (IfThen d) ≡ true → d .condition ≡ 14 → d .elses ≡ 0
+unfolding allowed
+no-else d e c =
+    let f : (not (eqb (d .condition) 14) || eqb (d .elses) 0) ≡ true = e in
+    eqb-true (d .elses) 0 (rw (eq-eqb (d .condition) 14 c) at f)
+
+module _ (listing : List ℕ) (p : Point) (r : Record) (q : Point) (e : meets listing p ≡ Onward r q) where
+  -- within a block the rest of it waits, and after an IT record its block
+  pub waits-after : q .waiting ≡ after r (p .waiting)
+  unfolding next
+  waits-after = ap (λ (x : Point). x .waiting) (onto listing p r q e .reached)
+
+  still-packed : Packed (p .waiting) → Packed (q .waiting)
+  still-packed h =
+      let o = onto listing p r q e in
+      let formed = ahead listing (p .place .0) r (q .place) (o .read) .formed in
+      let free = not-refused r (waiting-count (p .waiting)) (o .stands) .0 in
+      rw waits-after
+      (after-holds Packed r (p .waiting) (packed-dropped (p .waiting) h)
+      (λ d f. packed-block (d .condition) (d .count) (d .elses) (condition-known d (rw f at formed)) (no-else d (rw f at free))))
+
+module _ (listing : List ℕ) (base : ℕ) (p : Point) (o : On listing base p) where
+  pub on-packed : Packed (p .waiting)
+  unfolding start
+  on-packed = on-holds listing base (λ x. Packed (x .waiting)) packed-nothing (λ x r y e h. still-packed listing x r y e h) p o
+
+  pub nothing-waits : waiting-count (p .waiting) ≡ 0 → p .waiting ≡ nothing
+  nothing-waits = packed-none (p .waiting) on-packed
+
+  -- a record that leaves is the last of its block
+  pub leaves-last : (r : Record) (q : Point) → meets listing p ≡ Onward r q → leaves (way r) ≡ true → dropped (p .waiting) ≡ nothing
+  unfolding misplaced
+  leaves-last r q e l =
+      let n = waiting-count (p .waiting) in
+      let spot = not-refused r n (onto listing p r q e .stands) .1 in
+      let two = neither (alone r && leb 1 n) (leaves (way r) && leb 2 n) spot .1 in
+      packed-one (p .waiting) on-packed (omega (arith, leb-false 2 n (rw l at two)))

@@ -1,0 +1,158 @@
+-- The walk along a listing: what it meets, and where its points stand.
+use Prim.Native.Nat.{ℕ, zero, suc, _+_, _-_, _*_, _%_, _≤_, _<_}
+use mathlib.Core.Path.{_≡_, refl, sym, ap, _∙_}
+use mathlib.Core.Bool.{Bool, true, false}
+use mathlib.Core.List.{List, [], _∷_}
+use native.Mathlib.Omega.{arith}
+use borrow.Author.Tests.{eqb-true, eqb-false}
+use lib.Dec.{eqb}
+use lib.ListN.{length}
+use Rattle.word.specs.Choice.{if_then_else_}
+use Rattle.waiting.specs.Waiting.{waiting-count}
+use Rattle.record.specs.declared.Record.{Record}
+use Rattle.flow.specs.Flow.{wide, machine-length}
+use Rattle.reading.specs.declared.Place.{Place}
+use Rattle.reading.specs.declared.ReadAt.{ReadAt}
+use Rattle.reading.specs.declared.ReadAt.the-variants.{Found, Nothing}
+use Rattle.reading.specs.Reading.{read-at}
+use Rattle.reading.proofs.Places.{ahead}
+use Rattle.judge.specs.Judge.{refusal}
+use Rattle.layout.specs.declared.Point.{Point}
+use Rattle.layout.specs.Layout.{Met, Onward, AtEnd, Refusal, start, next, judged-at, meets, followed, walk}
+
+-- what a record and the point after it say of a point
+pub record Onto (listing : List ℕ) (p : Point) (r : Record) (q : Point) : Type 0 where
+  pub inside : p .place .0 ≡ length listing → ⊥
+  pub read : read-at listing (p .place .0) ≡ Found r (q .place)
+  pub stands : refusal r (waiting-count (p .waiting)) ≡ 0
+  pub reached : q ≡ next r (q .place) p
+
+module _ (listing : List ℕ) (p : Point) where
+  judged-onto : (t : Bool) (r : Record) (place : Place) (number : ℕ) → eqb number 0 ≡ t → refusal r (waiting-count (p .waiting)) ≡ number
+      → read-at listing (p .place .0) ≡ Found r place → (p .place .0 ≡ length listing → ⊥)
+      → (s : Record) (q : Point) → _≡_ {A = Met} (if t then Onward r (next r place p) else Refusal number) (Onward s q) → Onto listing p s q
+  unfolding next
+  judged-onto true r place number t n f i s q e =
+      let d : r ≡ s = cc in
+      let g : next r place p ≡ q = cc in
+      rw (← d, ← g) (record { inside = i; read = f; stands = n ∙ eqb-true number 0 t; reached = refl })
+  judged-onto false r place number t n f i s q e = let z : _≡_ {A = ℕ} 0 1 = cc in absurd (omega arith)
+
+  read-onto : (x : ReadAt) → read-at listing (p .place .0) ≡ x → (p .place .0 ≡ length listing → ⊥)
+      → (r : Record) (q : Point) → judged-at x p ≡ Onward r q → Onto listing p r q
+  unfolding judged-at
+  read-onto (Found r place) f i s q e =
+      let n = refusal r (waiting-count (p .waiting)) in judged-onto (eqb n 0) r place n refl refl f i s q e
+  read-onto Nothing f i s q e = let z : _≡_ {A = ℕ} 0 1 = cc in absurd (omega arith)
+
+  pub onto : (r : Record) (q : Point) → meets listing p ≡ Onward r q → Onto listing p r q
+  unfolding meets
+  onto r q = go (eqb (p .place .0) (length listing)) refl
+    where
+      go : (t : Bool) → eqb (p .place .0) (length listing) ≡ t
+          → _≡_ {A = Met} (if t then AtEnd else judged-at (read-at listing (p .place .0)) p) (Onward r q) → Onto listing p r q
+      go true t e = let z : _≡_ {A = ℕ} 0 1 = cc in absurd (omega arith)
+      go false t e = read-onto (read-at listing (p .place .0)) refl (eqb-false (p .place .0) (length listing) t) r q e
+
+  -- a refusal has a number, and the end is where the listing ends
+  judged-refused : (x : ReadAt) (number : ℕ) → judged-at x p ≡ Refusal number → number ≡ 0 → ⊥
+  unfolding judged-at
+  judged-refused (Found r place) number e z = go (eqb n 0) refl e
+    where
+      n : ℕ
+      n = refusal r (waiting-count (p .waiting))
+
+      go : (t : Bool) → eqb n 0 ≡ t → _≡_ {A = Met} (if t then Onward r (next r place p) else Refusal n) (Refusal number) → ⊥
+      go true t f = let y : _≡_ {A = ℕ} 0 1 = cc in omega arith
+      go false t f = let y : n ≡ number = cc in eqb-false n 0 t (y ∙ z)
+  judged-refused Nothing number e z = let y : _≡_ {A = ℕ} 2 number = cc in omega arith
+
+  pub refused-number : (number : ℕ) → meets listing p ≡ Refusal number → number ≡ 0 → ⊥
+  unfolding meets
+  refused-number number = go (eqb (p .place .0) (length listing))
+    where
+      go : (t : Bool) → _≡_ {A = Met} (if t then AtEnd else judged-at (read-at listing (p .place .0)) p) (Refusal number) → number ≡ 0 → ⊥
+      go true e z = let y : _≡_ {A = ℕ} 0 1 = cc in omega arith
+      go false e z = judged-refused (read-at listing (p .place .0)) number e z
+
+two-or-four : (t : Bool) → let n : ℕ = if t then 4 else 2 in (2 ≤ n) × (n ≤ 4) × (n % 2 ≡ 0)
+two-or-four true = (omega arith, omega arith, refl)
+two-or-four false = (omega arith, omega arith, refl)
+
+pub machine-bytes : (r : Record) → (2 ≤ machine-length r) × (machine-length r ≤ 4) × (machine-length r % 2 ≡ 0)
+unfolding machine-length
+machine-bytes r = two-or-four (wide r)
+
+-- the places and addresses that the walk can come to: a record of 2 listing bytes has at most 4 machine bytes
+pub record Within (listing : List ℕ) (base : ℕ) (p : Point) : Type 0 where
+  pub inside : p .place .0 ≤ length listing
+  pub from : base ≤ p .address .0
+  pub even : (p .address .0 - base) % 2 ≡ 0
+  pub to : p .address .0 ≤ base + 2 * p .place .0
+
+pub within-start : (listing : List ℕ) (base : ℕ) → Within listing base (start base)
+unfolding start
+within-start listing base = record { inside = omega arith; from = omega arith; even = omega arith; to = omega arith }
+
+-- places and addresses rise
+pub record Rises (p q : Point) : Type 0 where
+  pub places : p .place .0 < q .place .0
+  pub addresses : p .address .0 < q .address .0
+
+still-even : (base a n : ℕ) → base ≤ a → (a - base) % 2 ≡ 0 → n % 2 ≡ 0 → (a + n - base) % 2 ≡ 0
+still-even base a n h e f = omega arith
+
+module _ (listing : List ℕ) (p : Point) (r : Record) (q : Point) (e : meets listing p ≡ Onward r q) where
+  pub next-address : q .address .0 ≡ p .address .0 + machine-length r
+  unfolding next
+  next-address = ap (λ (q : Point). q .address .0) (onto listing p r q e .reached)
+
+  pub rises : Rises p q
+  rises =
+      let g = onto listing p r q e in
+      let a = ahead listing (p .place .0) r (q .place) (g .read) in
+      let n = machine-bytes r in
+      record { places = omega arith; addresses = omega (arith, next-address) }
+
+  pub within-next : (base : ℕ) → Within listing base p → Within listing base q
+  within-next base w =
+      let g = onto listing p r q e in
+      let a = ahead listing (p .place .0) r (q .place) (g .read) in
+      let n = machine-bytes r in
+      record {
+        inside = a .inside;
+        from = omega (arith, next-address);
+        even = rw next-address (still-even base (p .address .0) (machine-length r) (w .from) (w .even) (n .2));
+        to = omega (arith, next-address);
+      }
+
+-- ---- a turn of the walk
+module _ (listing : List ℕ) (p : Point) where
+  pub walk-on : (count : ℕ) → 0 < count → (r : Record) (q : Point) → meets listing p ≡ Onward r q → walk count listing p ≡ p ∷ walk (count - 1) listing q
+  unfolding walk
+  walk-on zero h r q e = absurd (omega arith)
+  walk-on (suc count) h r q e = let f : suc count - 1 ≡ count = omega arith in rw (e, f)
+
+  pub walk-more : (count : ℕ) (r : Record) (q : Point) → meets listing p ≡ Onward r q → walk (suc count) listing p ≡ p ∷ walk count listing q
+  unfolding walk
+  walk-more count r q e = rw e
+
+  pub walk-end : (count : ℕ) → 0 < count → meets listing p ≡ AtEnd → walk count listing p ≡ p ∷ []
+  unfolding walk
+  walk-end zero h e = absurd (omega arith)
+  walk-end (suc count) h e = rw e
+
+  pub walk-refused : (count : ℕ) → 0 < count → (number : ℕ) → meets listing p ≡ Refusal number → walk count listing p ≡ p ∷ []
+  unfolding walk
+  walk-refused zero h number e = absurd (omega arith)
+  walk-refused (suc count) h number e = rw e
+
+  pub walk-from : (count : ℕ) → 0 < count → walk count listing p ≡ p ∷ followed (meets listing p) (walk (count - 1) listing)
+  unfolding walk
+  walk-from zero h = absurd (omega arith)
+  walk-from (suc count) h = let f : suc count - 1 ≡ count = omega arith in rw f
+
+  pub walk-none : (count : ℕ) → count ≤ 0 → walk count listing p ≡ []
+  unfolding walk
+  walk-none zero h = refl
+  walk-none (suc count) h = absurd (omega arith)

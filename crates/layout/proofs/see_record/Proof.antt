@@ -1,0 +1,18 @@
+use Rattle.layout.specs.Layout.{judged-at}
+use Rattle.layout.specs.Seen.{seen}
+use borrow.Author.Needs.{needs}
+use Rattle.layout.proofs.see_record.Statement.{statement}
+use Rattle.layout.proofs.see_record.Tie as tie
+
+returns : tie.Need-returns
+unfolding seen judged-at
+returns c =
+    let n = c .before .before .before in
+    rw (← n .before .count .ensures, ← n .refusal-of .ensures, c .before .before .if1 .taken, c .before .way-of .ensures, c .next-of .ensures)
+
+returns-2 : tie.Need-returns-2
+unfolding seen judged-at
+returns-2 c = rw (← c .before .before .count .ensures, ← c .before .refusal-of .ensures, c .if1 .left)
+
+pub see-record-spec : {M : Type 1} → statement M
+see-record-spec = tie.close (tie.spec (λ c κs. search needs) (λ c κs. search needs) (λ c κs. search needs) (λ c κs. search needs) returns returns-2)

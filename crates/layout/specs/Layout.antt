@@ -1,0 +1,80 @@
+-- The layout of a listing: where each record stands, and which conditions wait there.
+-- "A place counts listing bytes, an address counts machine bytes"; the end of the listing is not taken modulo 2^32.
+use Prim.Native.Nat.{ℕ, zero, suc, _+_}
+use mathlib.Core.List.{List, [], _∷_}
+use lib.Dec.{eqb}
+use lib.ListN.{length}
+use Rattle.word.specs.Choice.{if_then_else_}
+use Rattle.waiting.specs.Waiting.{nothing, waiting-count}
+use Rattle.record.specs.declared.Record.{Record}
+use Rattle.flow.specs.Flow.{machine-length, after}
+use Rattle.reading.specs.Reading.{read-at}
+use Rattle.reading.specs.declared.Place.{Place}
+use Rattle.reading.specs.declared.ReadAt.{ReadAt}
+use Rattle.reading.specs.declared.ReadAt.the-variants.{Found, Nothing}
+use Rattle.judge.specs.Judge.{refusal}
+use Rattle.layout.specs.declared.Point.{Point}
+use Rattle.layout.specs.declared.Sought.{Sought}
+use Rattle.layout.specs.declared.Sought.the-variants.{At, Nowhere}
+use Rattle.layout.specs.declared.AtAddress.{AtAddress}
+use Rattle.layout.specs.declared.AtAddress.the-variants.{Stands, End, Stray}
+
+-- what stands at a point of the layout: a record, and the point after it; the end; or what 2, 3 or 4 refuses there
+pub data Met : Type 0 where
+  Onward : Record → Point → Met
+  AtEnd : Met
+  Refusal : ℕ → Met
+
+-- the first record stands at the base, and nothing waits there
+unfoldable pub start : ℕ → Point
+start base = record { place = record { 0 = 0 }; address = record { 0 = base }; waiting = nothing }
+
+-- the point after a record
+unfoldable pub next : Record → Place → Point → Point
+next r place p = record {
+  place = place;
+  address = record { 0 = p .address .0 + machine-length r };
+  waiting = after r (p .waiting);
+}
+
+-- 2 where no record was read, else "the lowest number there"; "blocks give the waiting conditions for rule 4"
+unfoldable pub judged-at : ReadAt → Point → Met
+judged-at (Found r place) p =
+    let number = refusal r (waiting-count (p .waiting)) in if eqb number 0 then Onward r (next r place p) else Refusal number
+judged-at Nothing p = Refusal 2
+
+unfoldable pub meets : List ℕ → Point → Met
+meets listing p = if eqb (p .place .0) (length listing) then AtEnd else judged-at (read-at listing (p .place .0)) p
+
+abbrev pub followed : Met → (Point → List Point) → List Point
+followed (Onward r q) rest = rest q
+followed AtEnd rest = []
+followed (Refusal number) rest = []
+
+-- the points from one on, so many at the most: to the end, or to the first that is refused
+unfoldable pub walk : ℕ → List ℕ → Point → List Point
+walk zero listing p = []
+walk (suc count) listing p = p ∷ followed (meets listing p) (walk count listing)
+
+-- the points of a listing: of each record and of the end, which are no more than its bytes and one
+unfoldable pub layout : List ℕ → ℕ → List Point
+layout listing base = walk (length listing + 1) listing (start base)
+
+-- the first point at an address
+unfoldable pub sought : ℕ → List Point → Sought
+sought address [] = Nowhere
+sought address (p ∷ ps) = if eqb (p .address .0) address then At p else sought address ps
+
+-- what stands at a point, if 2, 3 and 4 leave it
+unfoldable pub held : Met → Point → AtAddress
+held (Onward r q) p = Stands r p
+held AtEnd p = End
+held (Refusal number) p = Stray
+
+unfoldable pub held-at : List ℕ → Sought → AtAddress
+held-at listing (At p) = held (meets listing p) p
+held-at listing Nowhere = Stray
+
+-- the record at an address, with its place and waiting conditions; or the end; or neither
+unfoldable pub at-address : List ℕ → ℕ → ℕ → AtAddress
+at-address listing base address = held-at listing (sought address (layout listing base))

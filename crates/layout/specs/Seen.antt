@@ -1,0 +1,15 @@
+-- What a pass over a listing takes from a point, for the code: where the record goes, and the next point, its address kept in 64 bits.
+use Prim.Native.Nat.{_%_, _^_}
+use Rattle.flow.specs.Flow.{way}
+use Rattle.layout.specs.declared.Point.{Point}
+use Rattle.layout.specs.declared.Seen.{Seen}
+use Rattle.layout.specs.declared.Seen.the-variants.{Goes, Ends, Stops}
+use Rattle.layout.specs.Layout.{Met, Onward, AtEnd, Refusal}
+
+unfoldable pub kept : Point → Point
+kept p = record { place = p .place; address = record { 0 = p .address .0 % 2 ^ 64 }; waiting = p .waiting }
+
+unfoldable pub seen : Met → Seen
+seen (Onward r q) = Goes (way r) (kept q)
+seen AtEnd = Ends
+seen (Refusal number) = Stops number

@@ -1,0 +1,151 @@
+// The layout of a listing: the walk along its records, and the search for an address.
+
+ghost use mathlib.Core.Path.{_≡_};
+ghost use Rattle.layout.specs.Layout.{start, next, judged-at, meets, layout, sought, held, held-at, at-address};
+ghost use Rattle.layout.specs.Seen.{kept, seen};
+ghost use Rattle.reading.specs.declared.ReadAt.the-variants.{Found};
+use flow::Way;
+use reading::Place;
+use reading::ReadAt;
+use record::Record;
+use waiting::Waiting;
+
+// An address counts machine bytes. That of the end may be past the last word.
+pub struct Address(pub u64);
+
+// A point of the layout: where a record or the end stands, and which conditions wait there.
+pub struct Point {
+    pub place: Place,
+    pub address: Address,
+    pub waiting: Waiting,
+}
+
+// What a pass takes from a point.
+pub enum Seen {
+    // where the record goes, and the next point
+    Goes(Way, Point),
+    Ends,
+    // the number that the record is refused with
+    Stops(u32),
+}
+
+pub enum Sought {
+    At(Point),
+    Nowhere,
+}
+
+// What stands at an address.
+pub enum AtAddress {
+    // a record, and its point
+    Stands(Record, Point),
+    End,
+    Stray,
+}
+
+pub fn start_of(base: u32) -> Point
+    ensures { λ p. ⌜ p ≡ start base ⌝ }
+{
+    Point {
+        place: Place(0),
+        address: Address(base as u64),
+        waiting: Waiting::nothing(),
+    }
+}
+
+pub fn see(listing: &[u8], point: Point) -> Seen
+    ensures { λ t. ⌜ t ≡ seen (meets (now (listing .entry)) point) ⌝ }
+{
+    let at = point.place.0;
+    let at_end = at == listing.len();
+    if at_end {
+        return Seen::Ends;
+    }
+    let ReadAt::Found(r, place) = reading::read_next(listing, Place(at)) else {
+        return Seen::Stops(2);
+    };
+    see_record(r, place, point)
+}
+
+fn see_record(r: Record, place: Place, point: Point) -> Seen
+    ensures { λ t. ⌜ t ≡ seen (judged-at (Found r place) point) ⌝ }
+{
+    let number = judge::refusal_of(r, point.waiting.count());
+    let stands = number == 0;
+    if stands {
+        return Seen::Goes(flow::way_of(r), next_of(r, place, point));
+    }
+    Seen::Stops(number)
+}
+
+fn next_of(r: Record, place: Place, point: Point) -> Point
+    ensures { λ q. ⌜ q ≡ kept (next r place point) ⌝ }
+{
+    Point {
+        place: place,
+        address: Address(std::num::wrapping_add_u64(
+            point.address.0,
+            flow::machine_length_of(r) as u64,
+        )),
+        waiting: flow::waiting_after(r, point.waiting),
+    }
+}
+
+pub fn found(listing: &[u8], base: u32, address: u32) -> AtAddress
+    ensures { λ t. ⌜ t ≡ at-address (now (listing .entry)) base address ⌝ }
+{
+    match seek(listing, base, address) {
+        Sought::At(point) => hold(listing, point),
+        Sought::Nowhere => AtAddress::Stray,
+    }
+}
+
+fn seek(listing: &[u8], base: u32, address: u32) -> Sought
+    ensures { λ t. ⌜ t ≡ sought address (layout (now (listing .entry)) base) ⌝ }
+{
+    let mut point = start_of(base);
+    let mut left = listing.len() + 1;
+    while 0 < left {
+        let here = point.address.0 == address as u64;
+        if here {
+            return Sought::At(point);
+        }
+        // addresses rise: past this one it stands nowhere
+        let past = (address as u64) < point.address.0;
+        if past {
+            return Sought::Nowhere;
+        }
+        match see(listing, point) {
+            Seen::Goes(_, next) => {
+                point = next;
+                left = left - 1;
+            }
+            Seen::Ends => return Sought::Nowhere,
+            Seen::Stops(_) => return Sought::Nowhere,
+        }
+    }
+    Sought::Nowhere
+}
+
+fn hold(listing: &[u8], point: Point) -> AtAddress
+    ensures { λ t. ⌜ t ≡ held (meets (now (listing .entry)) point) point ⌝ }
+{
+    let at = point.place.0;
+    let at_end = at == listing.len();
+    if at_end {
+        return AtAddress::End;
+    }
+    let ReadAt::Found(r, place) = reading::read_next(listing, Place(at)) else {
+        return AtAddress::Stray;
+    };
+    hold_record(r, place, point)
+}
+
+fn hold_record(r: Record, place: Place, point: Point) -> AtAddress
+    ensures { λ t. ⌜ t ≡ held (judged-at (Found r place) point) point ⌝ }
+{
+    let stands = judge::refusal_of(r, point.waiting.count()) == 0;
+    if stands {
+        return AtAddress::Stands(r, point);
+    }
+    AtAddress::Stray
+}
