@@ -44,8 +44,12 @@ unfoldable pub found-at : Read → ℕ → ReadAt
 found-at (Is r) next = Found r (record { 0 = next })
 found-at Refused next = Nothing
 
+-- the bytes of a listing from a place on, as many as the kind there has; fewer where the listing ends before
+abbrev pub part : List ℕ → ℕ → List ℕ
+part listing place = take (listing-length (byte listing place)) (drop place listing)
+
 -- the record at a place of a listing
 unfoldable pub read-at : List ℕ → ℕ → ReadAt
 read-at listing place =
     let size = listing-length (byte listing place) in
-    if leb (place + size) (length listing) then found-at (read-one (take size (drop place listing))) (place + size) else Nothing
+    if leb (place + size) (length listing) then found-at (read-one (part listing place)) (place + size) else Nothing

@@ -3,7 +3,7 @@
 ghost use mathlib.Core.Path.{_≡_};
 ghost use Rattle.word.specs.Choice.{if_then_else_};
 ghost use Rattle.fields.specs.Fields.{well-formed};
-ghost use Rattle.reading.specs.Reading.{coded, named, read-one, read-at};
+ghost use Rattle.reading.specs.Reading.{coded, named, read-one, part, read-at};
 use record::Record;
 
 // A place counts listing bytes.
@@ -85,4 +85,21 @@ pub fn read_next(listing: &[u8], place: Place) -> ReadAt
         return ReadAt::Nothing;
     };
     ReadAt::Found(record, Place(next))
+}
+
+// The bytes at a place, as many as the kind there has.
+pub fn part_of(listing: &[u8], place: Place) -> &[u8]
+    ensures { λ r. ⌜ now r ≡ part (now (listing .entry)) (place .0) ⌝ }
+{
+    let at = place.0;
+    let size = kinds::listing_length_of(little::byte_at(listing, at)) as usize;
+    let end = listing.len();
+    if end < at {
+        return &listing[end..];
+    }
+    if end - at < size {
+        return &listing[at..];
+    }
+    let next = at + size;
+    &listing[at..next]
 }
