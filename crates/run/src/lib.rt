@@ -50,7 +50,8 @@ pub fn run(
         if accepted {
             return repeat(machine, listing, base, memory, setup, budget);
         }
-        return stop(checked.number, checked.place, machine);
+        let place = checked.place;
+        return stop(checked.number, place, machine);
     }
     stop(1, Place(0), machine)
 }
@@ -85,9 +86,10 @@ fn repeat(
         m = round.machine;
         let over = round.over;
         if over {
+            let place = round.place;
             return Ran {
                 number: round.number,
-                place: round.place,
+                place,
                 count,
                 machine: m,
             };
@@ -141,9 +143,11 @@ fn see(address: u32, waiting: Waiting, listing: &[u8], base: u32) -> Sight
 {
     match layout::found(listing, base, address) {
         AtAddress::Stands(_, point) => {
-            let same = waiting.is_same(point.waiting);
+            let due = point.waiting;
+            let same = waiting.is_same(due);
             if same {
-                return Sight::AtRecord(point.place);
+                let place = point.place;
+                return Sight::AtRecord(place);
             }
             Sight::AtNone
         }
