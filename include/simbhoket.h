@@ -28,4 +28,11 @@ uint32_t simbhoket_step(uint8_t *machine, size_t machine_length, const uint8_t *
 /* The check of a listing at a base: the number plus 2^32 times the place. */
 uint64_t simbhoket_check(const uint8_t *listing, size_t listing_length, uint32_t base);
 
+/* A run of a listing at a base, so many steps at the most: the number, 0 to 10. `answer` is 12 bytes, in which number, place and count
+   of the steps done are put as little-endian words. Machine and memory are handed back as after the last good step. An image
+   that is none, or an answer of another length, is number 1, and nothing is changed, `answer` neither. */
+uint32_t simbhoket_run(uint8_t *machine, size_t machine_length, const uint8_t *listing, size_t listing_length,
+                       uint32_t listing_base, uint8_t *memory, size_t memory_length, uint32_t memory_base, uint32_t budget,
+                       uint8_t *answer, size_t answer_length);
+
 #endif

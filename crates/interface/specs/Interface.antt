@@ -1,16 +1,20 @@
 -- What the C functions answer, as include/simbhoket.h says it.
 use Prim.Native.Nat.{ℕ, _+_, _*_, _^_}
+use mathlib.Core.Bool.{_&&_}
 use mathlib.Core.List.{List}
 use lib.Dec.{eqb}
+use lib.ListN.{length}
 use Rattle.word.specs.Choice.{if_then_else_}
 use Rattle.flow.specs.Flow.{machine-length, way, target}
 use Rattle.flow.specs.declared.Way.{Way}
 use Rattle.flow.specs.declared.Way.the-variants.{Next, Direct, Taken}
 use Rattle.memory.specs.declared.Setup.{Setup}
+use Rattle.memory.specs.Memory.{stored}
 use Rattle.machine.specs.Access.{Outcome}
 use Rattle.machine.specs.Step.{stepped}
 use Rattle.image.specs.Image.{is-image, machine-of, image-of}
 use Rattle.listing.specs.declared.Checked.{Checked}
+use Rattle.run.specs.Run.{Rehearsal, state, run-of, Ending, outcome}
 use Rattle.kinds.specs.Kinds.{listing-length}
 use Rattle.reading.specs.declared.Read.{Read}
 use Rattle.reading.specs.declared.Read.the-variants.{Is, Refused}
@@ -37,6 +41,35 @@ unfoldable pub image-stepped : List ℕ → List ℕ → List ℕ → Setup → 
 image-stepped image r bytes setup =
     if is-image image then leaving image (stepped (machine-of image) r bytes setup)
     else left 1 image bytes
+
+-- the number that a run in C gives, and what it leaves in the lent bytes
+pub record RunLeft : Type 0 where
+  pub number : ℕ
+  pub image : List ℕ
+  pub memory : List ℕ
+  pub answer : List ℕ
+
+abbrev pub run-left : ℕ → List ℕ → List ℕ → List ℕ → RunLeft
+run-left number image memory answer = record { number = number; image = image; memory = memory; answer = answer }
+
+-- "number, place and count as little-endian words"
+unfoldable pub with-answer : List ℕ → ℕ → ℕ → ℕ → List ℕ
+with-answer answer number place count =
+    let first : Setup = record { base = 0 } in
+    stored 4 first (stored 4 first (stored 4 first answer 0 number) 4 place) 8 count
+
+-- "Machine and memory are handed back as after the last good step."
+unfoldable pub run-leaving : List ℕ → List ℕ → Ending → RunLeft
+run-leaving image answer e =
+    let ran = e .answer in
+    run-left (ran .number) (image-of image (ran .machine)) (e .memory) (with-answer answer (ran .number) (ran .place .0) (ran .count))
+
+-- a run of a machine's image
+unfoldable pub image-run : ℕ → Rehearsal → List ℕ → List ℕ → List ℕ → RunLeft
+image-run budget h image bytes answer =
+    if is-image image && eqb (length answer) 12
+    then run-leaving image answer (outcome (run-of budget h (state (machine-of image) bytes)))
+    else run-left 1 image bytes answer
 
 -- two numbers of 32 bits in one of 64
 abbrev pub pair : ℕ → ℕ → ℕ

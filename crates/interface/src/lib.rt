@@ -7,7 +7,8 @@ ghost use Rattle.reading.specs.Reading.{read-one, read-at};
 ghost use Rattle.word.specs.Choice.{if_then_else_};
 ghost use Rattle.image.specs.Image.{image-of};
 ghost use Rattle.listing.specs.Check.{checked};
-ghost use Rattle.interface.specs.Interface.{left, image-stepped, pair, measured, way-number, way-read, reported};
+ghost use Rattle.run.specs.Run.{rehearsal};
+ghost use Rattle.interface.specs.Interface.{left, image-stepped, run-left, with-answer, image-run, pair, measured, way-number, way-read, reported};
 use flow::Way;
 use machine::Machine;
 use memory::Setup;
@@ -64,6 +65,40 @@ pub extern "C" fn simbhoket_step(machine: &mut [u8], r: &[u8], memory: &mut [u8]
         return number;
     }
     1
+}
+
+#[no_mangle]
+pub extern "C" fn simbhoket_run(
+    machine: &mut [u8],
+    listing: &[u8],
+    origin: u32,
+    memory: &mut [u8],
+    base: u32,
+    budget: u32,
+    answer: &mut [u8],
+) -> u32
+    ensures { λ n. ⌜ run-left n (now (machine .exit)) (now (memory .exit)) (now (answer .exit)) ≡ image-run budget (rehearsal (now (listing .entry)) origin (record { base = base })) (now (machine .entry)) (now (memory .entry)) (now (answer .entry)) ⌝ }
+{
+    let known = image::is_image_of(machine) & (answer.len() == 12);
+    if known {
+        let before = image::read(machine);
+        let ran = run::run(before, listing, origin, memory, Setup { base }, budget);
+        let after = ran.machine;
+        image::write(machine, after);
+        let place = ran.place.0;
+        tell(answer, ran.number, place, ran.count);
+        return ran.number;
+    }
+    1
+}
+
+fn tell(answer: &mut [u8], number: u32, place: usize, count: u32)
+    ensures { λ n. ⌜ now (answer .exit) ≡ with-answer (now (answer .entry)) number place count ⌝ }
+{
+    let first = Setup { base: 0 };
+    memory::store_word(answer, first, 0, number);
+    memory::store_word(answer, first, 4, (place % 0x1_0000_0000) as u32);
+    memory::store_word(answer, first, 8, count);
 }
 
 fn write_if(done: bool, image: &mut [u8], m: Machine)
