@@ -82,6 +82,7 @@ fn repeat(
     let mut count = 0;
     let mut m = machine;
     while count < budget {
+        let next = count + 1;
         let round = take(m, listing, base, memory, setup);
         m = round.machine;
         let over = round.over;
@@ -94,7 +95,7 @@ fn repeat(
                 machine: m,
             };
         }
-        count = count + 1;
+        count = next;
     }
     let waiting = m.waiting;
     let number = used_up_of(see(m.register(Machine::PC), waiting, listing, base));

@@ -57,10 +57,10 @@ repeat-spec =
     Inv-loop
     μ-loop
     loop-holds
+    (λ c. omega arith)
     (λ c κs. search needs)
     same-length
     returns
-    (λ c. omega arith)
     (λ c. omega arith)
     loop-again
     (λ c κs. search needs)
