@@ -7,10 +7,10 @@ const FOLDER: &str = "SIMBHOKET_LIB";
 
 fn main() {
     println!("cargo:rerun-if-env-changed={FOLDER}");
-    let Some(folder) = std::env::var_os(FOLDER) else {
+    let folder = std::env::var_os(FOLDER).unwrap_or_else(|| {
         eprintln!("{FOLDER} is not set: it names the folder of libinterface.a (tests/common)");
         exit(1);
-    };
+    });
     let library = Path::new(&folder).join("libinterface.a");
     // A relative name would be looked up from two folders, here and by the linker.
     if !library.is_absolute() || !library.is_file() {

@@ -9,7 +9,7 @@ use crate::image::Image;
 use crate::{proved, Outcome};
 use clock::{median, Rounds};
 use second::image::{decode, encode};
-use std::hint::black_box;
+use second::machine::Machine;
 use std::time::Duration;
 use stream::Stream;
 
@@ -43,35 +43,43 @@ fn proved_round(stream: &Stream) -> End {
     let (image, mut memory) = fresh();
     let (mut image, mut done) = (image.bytes(), 0);
     for record in (0..TIMES).flat_map(|_| stream.records()) {
-        let number = proved::step(&mut image, black_box(record), &mut memory, BASE);
+        let number = proved::step(&mut image, record, &mut memory, BASE);
         done += usize::from(number == 0);
     }
     End { image, memory, done }
 }
 
-/// As the C function does: the image is read and written for every step.
 fn second_round(stream: &Stream) -> End {
     let (image, mut memory) = fresh();
     let (mut image, mut done) = (image.bytes(), 0);
     for record in (0..TIMES).flat_map(|_| stream.records()) {
-        let Some(mut machine) = decode(black_box(&image)) else { continue };
-        let number = second::step::step(&mut machine, black_box(record), &mut memory, BASE);
-        image.copy_from_slice(&encode(&machine));
-        done += usize::from(number == 0);
+        done += usize::from(second_step(&mut image, record, &mut memory) == Some(0));
     }
     End { image, memory, done }
 }
 
+/// As the C function does: the image is read and written for every step, and the compiler does not
+/// see from one call into the next.
+#[inline(never)]
+fn second_step(image: &mut [u8], record: &[u8], memory: &mut [u8]) -> Option<u32> {
+    let mut machine = decode(image)?;
+    let number = second::step::step(&mut machine, record, memory, BASE);
+    image.copy_from_slice(&encode(&machine));
+    Some(number)
+}
+
 fn own_round(stream: &Stream) -> End {
     let (image, mut memory) = fresh();
-    let image = image.bytes();
-    let Some(mut machine) = decode(&image) else { return End { image, memory, done: 0 } };
-    let mut done = 0;
+    let (mut machine, mut done) = (decode(&image.bytes()).unwrap_or(Machine::FRESH), 0);
     for record in (0..TIMES).flat_map(|_| stream.records()) {
-        let number = second::step::step(&mut machine, black_box(record), &mut memory, BASE);
-        done += usize::from(number == 0);
+        done += usize::from(own_step(&mut machine, record, &mut memory) == 0);
     }
     End { image: encode(&machine).to_vec(), memory, done }
+}
+
+#[inline(never)]
+fn own_step(machine: &mut Machine, record: &[u8], memory: &mut [u8]) -> u32 {
+    second::step::step(machine, record, memory, BASE)
 }
 
 fn steps(stream: &Stream) -> Result<String, String> {

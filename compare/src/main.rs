@@ -28,18 +28,18 @@ type Outcome = Result<(), String>;
 fn main() -> ExitCode {
     let arguments: Vec<String> = std::env::args().skip(1).collect();
     let words: Vec<&str> = arguments.iter().map(String::as_str).collect();
-    let Some(outcome) = outcome(&words) else {
-        eprintln!("{USAGE}");
-        return ExitCode::from(2);
-    };
-    match outcome {
-        Ok(summary) => {
+    match outcome(&words) {
+        Some(Ok(summary)) => {
             println!("{summary}");
             ExitCode::SUCCESS
         }
-        Err(failure) => {
+        Some(Err(failure)) => {
             eprintln!("{failure}");
             ExitCode::FAILURE
+        }
+        None => {
+            eprintln!("{USAGE}");
+            ExitCode::from(2)
         }
     }
 }

@@ -69,7 +69,7 @@ fn width(op: Single) -> usize {
 
 /// "LDR, LDRH, LDRSH, STR, STRH may be unaligned, but LDR to R15 wants a multiple of 4".
 fn find_single(memory: &Memory, op: Single, rt: Register, address: u32) -> Result<usize, Number> {
-    if rt == PC && !address.is_multiple_of(4) {
+    if rt == PC && address % 4 != 0 {
         return Err(UNALIGNED);
     }
     memory.find(address, width(op))
@@ -77,7 +77,7 @@ fn find_single(memory: &Memory, op: Single, rt: Register, address: u32) -> Resul
 
 /// ".. wants a multiple of 4, as do kinds 0F and 10."
 fn find_words(memory: &Memory, address: u32, words: u32) -> Result<usize, Number> {
-    if !address.is_multiple_of(4) {
+    if address % 4 != 0 {
         return Err(UNALIGNED);
     }
     memory.find(address, 4 * words as usize)

@@ -40,7 +40,7 @@ impl Layout {
 
     /// "Landing places are addresses of records outside all blocks, and the end address."
     fn lands(&self, address: u32) -> bool {
-        address == self.end || self.at(address).is_some_and(|entry| entry.waiting.is_empty())
+        address == self.end || self.at(address).map_or(false, |entry| entry.waiting.is_empty())
     }
 }
 
@@ -67,7 +67,7 @@ pub fn check(listing: &[u8], base: u32) -> (Number, u32) {
 
 pub fn layout(listing: &[u8], base: u32) -> Result<Layout, (Number, usize)> {
     // "listing over 65,536 bytes or base odd (place 0)"
-    if listing.len() > LIMIT || !base.is_multiple_of(2) {
+    if listing.len() > LIMIT || base % 2 != 0 {
         return Err((UNFIT, 0));
     }
     let walk = walk(listing, base)?;

@@ -35,8 +35,9 @@ pub fn decode(image: &[u8]) -> Option<Machine> {
     machine.v = flag(image[FLAGS + 3])?;
     machine.q = flag(image[FLAGS + 4])?;
     let conditions = &image[CONDITIONS..];
-    let (waiting, past) = conditions.split_at_checked(usize::from(image[COUNT]))?;
-    if past.iter().any(|&condition| condition != 0) {
+    let count = usize::from(image[COUNT]);
+    let waiting = conditions.get(..count)?;
+    if conditions[count..].iter().any(|&condition| condition != 0) {
         return None;
     }
     machine.waiting = Waiting::new(waiting)?;

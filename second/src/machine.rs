@@ -93,7 +93,7 @@ impl Machine {
 
     /// "A machine is good when R15 is even, R13 is a multiple of 4, and each waiting condition .."
     pub fn good(&self) -> bool {
-        self.address().is_multiple_of(2) && self.get(SP).is_multiple_of(4) && self.waiting.good()
+        self.address() % 2 == 0 && self.get(SP) % 4 == 0 && self.waiting.good()
     }
 
     pub fn get(&self, register: Register) -> u32 {
@@ -146,7 +146,7 @@ impl Machine {
     /// "Every value put in R15 has bit 0 cleared; ADD and MOV never refuse for it." A "value for R13
     /// [that] is not a multiple of 4" is refused, a base written back too (R3).
     pub fn put(&mut self, register: Register, value: u32) -> Result<(), Number> {
-        if register == SP && !value.is_multiple_of(4) {
+        if register == SP && value % 4 != 0 {
             return Err(BAD_VALUE);
         }
         let value = if register == PC { word::even(value) } else { value };
@@ -156,7 +156,7 @@ impl Machine {
 
     /// "value for R15 by LDR, LDM, BX or BLX has bit 0 clear".
     pub fn go(&mut self, value: u32) -> Result<(), Number> {
-        if value.is_multiple_of(2) {
+        if value % 2 == 0 {
             return Err(BAD_VALUE);
         }
         self.put(PC, value)

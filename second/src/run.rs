@@ -46,8 +46,9 @@ fn rounds(machine: &mut Machine, layout: &Layout, memory: &mut Memory, budget: u
         // "R15 is neither a record's address nor the end, or the waiting list differs from the
         // layout's there"; at the end the layout has none (R22).
         let here = layout.at(machine.address()).filter(|entry| entry.waiting == machine.waiting);
-        let Some(entry) = here else {
-            return Ran { number: STRAY, place: 0, count };
+        let entry = match here {
+            Some(entry) => entry,
+            None => return Ran { number: STRAY, place: 0, count },
         };
         if count == budget {
             return Ran { number: USED_UP, place: 0, count };

@@ -197,7 +197,7 @@ pub fn base(x: u32) -> u32 {
 
 /// "Address sums in a step, and branch targets, are taken modulo 2^32".
 pub fn moved(x: u32, by: i32) -> u32 {
-    x.wrapping_add_signed(by)
+    x.wrapping_add(by as u32)
 }
 
 pub fn count(list: u16) -> u32 {

@@ -163,8 +163,9 @@ fn slow_check(listing: &[u8], base: u32) -> (u32, u32) {
     let (mut place, mut address, mut open) = (0, u64::from(base), 0);
     let (mut records, mut landing) = (Vec::new(), Vec::new());
     while place < listing.len() {
-        let Ok((record, length)) = second::read::read(listing, place) else {
-            return (2, place as u32);
+        let (record, length) = match second::read::read(listing, place) {
+            Ok(read) => read,
+            Err(_) => return (2, place as u32),
         };
         let number = judge(&listing[place..place + length], open);
         if number != 0 {
@@ -190,7 +191,7 @@ fn slow_check(listing: &[u8], base: u32) -> (u32, u32) {
     landing.push(address);
     for (place, address, record) in records {
         let target = record.direct_target(address as u32).map(u64::from);
-        if target.is_some_and(|target| !landing.contains(&target)) {
+        if target.map_or(false, |target| !landing.contains(&target)) {
             return (9, place as u32);
         }
     }

@@ -66,7 +66,7 @@ fn all_samples() {
     let mut seen = 0;
     for file in std::fs::read_dir(samples).unwrap() {
         let path = file.unwrap().path();
-        if path.extension().is_some_and(|extension| extension == "bin") {
+        if path.extension().map_or(false, |extension| extension == "bin") {
             let listing = std::fs::read(&path).unwrap();
             let wanted = std::fs::read_to_string(path.with_extension("out")).unwrap();
             assert_eq!(program(&listing), wanted, "{}", path.display());

@@ -4,7 +4,6 @@ use super::clock::{median, Rounds};
 use crate::checks::listing::{fill_up, retarget, Records, BRANCH, COMPARE_BRANCH, IF_THEN};
 use crate::prng::Prng;
 use crate::{proved, random_record};
-use std::hint::black_box;
 use std::time::Duration;
 
 const SEED: u64 = 0xBE4C_C4EC;
@@ -52,14 +51,18 @@ fn plain_listing(bytes: usize) -> Vec<u8> {
     records.concat()
 }
 
+/// The compiler does not see that one check gives what the one before it gave.
+#[inline(never)]
+fn second_check(listing: &[u8]) -> (u32, u32) {
+    second::check::check(listing, BASE)
+}
+
 /// Of one check by each side; a round checks so many times.
 fn times(listing: &[u8], count: usize) -> Result<[Duration; 2], String> {
     let mut rounds = [Rounds::new(), Rounds::new()];
     for _ in 0..ROUNDS {
-        let proved =
-            rounds[0].take(|| (0..count).map(|_| proved::check(black_box(listing), BASE)).max());
-        let second = rounds[1]
-            .take(|| (0..count).map(|_| second::check::check(black_box(listing), BASE)).max());
+        let proved = rounds[0].take(|| (0..count).map(|_| proved::check(listing, BASE)).max());
+        let second = rounds[1].take(|| (0..count).map(|_| second_check(listing)).max());
         if proved != Some(0) || second != Some((0, 0)) {
             return Err(format!("a listing was not accepted: {proved:?}, {second:?}"));
         }

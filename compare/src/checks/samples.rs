@@ -36,7 +36,7 @@ fn files() -> std::io::Result<Vec<PathBuf>> {
     let mut files = Vec::new();
     for entry in Path::new(FOLDER).read_dir()? {
         let path = entry?.path();
-        if path.extension().is_some_and(|extension| extension == "bin") {
+        if path.extension().map_or(false, |extension| extension == "bin") {
             files.push(path);
         }
     }

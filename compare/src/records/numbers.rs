@@ -31,7 +31,7 @@ pub fn constants(comparison: &mut Comparison) -> Outcome {
         for constant in rotated.chain(repeated) {
             for (head, by) in CONSTANT_HEADS.iter().flat_map(|head| NEAR.map(move |by| (head, by)))
             {
-                word(comparison, head, constant.wrapping_add_signed(by))?;
+                word(comparison, head, constant.wrapping_add(by as u32))?;
             }
             for bit in 0..32 {
                 word(comparison, &CONSTANT_HEADS[0], constant ^ 1 << bit)?;

@@ -23,8 +23,8 @@ impl Look<'_> {
 
     /// The base of kind 10 is in its list, which is then not written back.
     fn base_in_list(&self) -> bool {
-        let [_, _, _, rn, _, a, b] = *self.record else { return false };
-        self.record[0] == 0x10 && u16::from_le_bytes([a, b]) >> rn & 1 == 1
+        matches!(*self.record, [0x10, _, _, rn, _, a, b]
+            if u16::from_le_bytes([a, b]) >> rn & 1 == 1)
     }
 }
 
@@ -42,7 +42,7 @@ pub const SIGHTS: [Sight; 22] = [
     ("shift by 31", |look| look.amount() == Some(31)),
     ("shift by 32", |look| look.amount() == Some(32)),
     ("shift by 33", |look| look.amount() == Some(33)),
-    ("shift by more than a byte", |look| look.amount().is_some_and(|amount| amount > 255)),
+    ("shift by more than a byte", |look| look.amount().map_or(false, |amount| amount > 255)),
     ("division by 0", |look| matches!(*look.record, [0x09, .., rm] if look.register(rm) == 0)),
     ("minimum by -1", |look| {
         matches!(*look.record, [0x09, 0, _, _, rn, rm]

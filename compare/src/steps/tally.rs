@@ -44,7 +44,7 @@ impl Tally {
         let passed = match ruling(image, record) {
             Some(condition) => {
                 let machine = second::image::decode(image);
-                let passed = machine.is_some_and(|machine| machine.passes(condition));
+                let passed = machine.map_or(false, |machine| machine.passes(condition));
                 self.ruled[usize::from(condition)][usize::from(passed)] += 1;
                 passed
             }

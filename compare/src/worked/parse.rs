@@ -43,7 +43,7 @@ pub fn bytes(text: &str) -> Result<Vec<u8>, String> {
 fn pairs(token: &str, bytes: &mut Vec<u8>) -> Option<()> {
     let digits = token.bytes().map(|digit| char::from(digit).to_digit(16));
     let digits: Vec<u32> = digits.collect::<Option<_>>()?;
-    if !digits.len().is_multiple_of(2) {
+    if digits.len() % 2 != 0 {
         return None;
     }
     bytes.extend(digits.chunks(2).map(|pair| (pair[0] * 16 + pair[1]) as u8));
