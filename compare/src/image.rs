@@ -5,6 +5,7 @@ pub const BYTES: usize = 74;
 pub const FLAGS: usize = 64;
 pub const COUNT: usize = 69;
 pub const CONDITIONS: usize = 70;
+const AL: u8 = 14;
 pub const FLAG_NAMES: [&str; 5] = ["N", "Z", "C", "V", "Q"];
 
 #[derive(Clone, Copy, PartialEq, Eq)]
@@ -30,6 +31,20 @@ impl Image {
         bytes.extend(self.conditions);
         bytes
     }
+}
+
+/// "An image of another length, with another flag byte, a count above 4 or a byte past the count that
+/// is not 0" is none, nor is one with a waiting condition above 14 (B23 of docs/DECISIONS.md).
+pub fn is_one(image: &[u8]) -> bool {
+    let image: &[u8; BYTES] = match image.try_into() {
+        Ok(image) => image,
+        Err(_) => return false,
+    };
+    let highest = |place: usize| if place < usize::from(image[COUNT]) { AL } else { 0 };
+    let conditions = image[CONDITIONS..].iter().enumerate();
+    image[FLAGS..COUNT].iter().all(|&flag| flag <= 1)
+        && image[COUNT] <= 4
+        && conditions.into_iter().all(|(place, &condition)| condition <= highest(place))
 }
 
 /// What stands in an image of the right length, a name and a value each.

@@ -19,8 +19,9 @@ mod worked;
 
 use std::process::ExitCode;
 
-const USAGE: &str =
-    "usage: compare records | steps [SEED] | checks [SEED] | worked FILE | bench (SEED: decimal)";
+const USAGE: &str = "usage: compare records | steps [SEED] | checks [SEED] | bench
+     | worked FILE | worked-checks FILE LEAST | worked-runs FILE LEAST
+SEED and LEAST, the fewest cases that a file has to have, are decimal numbers.";
 
 /// An error is a text that says what differs.
 type Outcome = Result<(), String>;
@@ -52,7 +53,9 @@ fn outcome(words: &[&str]) -> Option<Result<String, String>> {
         ["steps", seed] => steps::run(seed.parse().ok()?),
         ["checks"] => checks::run(checks::SEED),
         ["checks", seed] => checks::run(seed.parse().ok()?),
-        ["worked", file] => worked::run(file),
+        ["worked", file] => worked::steps(file, 1),
+        ["worked-checks", file, least] => worked::checks(file, least.parse().ok()?),
+        ["worked-runs", file, least] => worked::runs(file, least.parse().ok()?),
         ["bench"] => bench::run(),
         _ => return None,
     };

@@ -16,6 +16,19 @@ extern "C" {
         memory_length: usize,
         base: u32,
     ) -> u32;
+    fn simbhoket_run(
+        machine: *mut u8,
+        machine_length: usize,
+        listing: *const u8,
+        listing_length: usize,
+        listing_base: u32,
+        memory: *mut u8,
+        memory_length: usize,
+        memory_base: u32,
+        budget: u32,
+        answer: *mut u8,
+        answer_length: usize,
+    ) -> u32;
     fn simbhoket_check(listing: *const u8, listing_length: usize, base: u32) -> u64;
 }
 
@@ -50,6 +63,33 @@ pub fn step(machine: &mut [u8], record: &[u8], memory: &mut [u8], base: u32) -> 
             memory.as_mut_ptr(),
             memory.len(),
             base,
+        )
+    }
+}
+
+/// The number 0 to 10 of a run, which is also the first of the three words in the answer's room;
+/// listing and memory come with their bases.
+pub fn run(
+    machine: &mut [u8],
+    (listing, listing_base): (&[u8], u32),
+    (memory, memory_base): (&mut [u8], u32),
+    budget: u32,
+    answer: &mut [u8],
+) -> u32 {
+    // SAFETY: as above, with three slices lent to be changed.
+    unsafe {
+        simbhoket_run(
+            machine.as_mut_ptr(),
+            machine.len(),
+            listing.as_ptr(),
+            listing.len(),
+            listing_base,
+            memory.as_mut_ptr(),
+            memory.len(),
+            memory_base,
+            budget,
+            answer.as_mut_ptr(),
+            answer.len(),
         )
     }
 }

@@ -5,7 +5,7 @@ use super::scene::{fill, machine, Scene};
 use super::{aim, record, spoil};
 use crate::image::Image;
 use crate::prng::Prng;
-use crate::question::Question;
+use crate::question::step::Question;
 use crate::stock::Stock;
 
 const LIMIT: usize = 1_048_576;

@@ -4,7 +4,7 @@
 use super::scene::Scene;
 use crate::image::{Image, CONDITIONS, COUNT, FLAGS};
 use crate::prng::Prng;
-use crate::question::Question;
+use crate::question::step::Question;
 
 const RARE: u32 = 64;
 const SP: usize = 13;

@@ -2,7 +2,7 @@
 
 use super::sights::{Look, SIGHTS};
 use crate::image::{CONDITIONS, COUNT};
-use crate::question::Question;
+use crate::question::step::Question;
 use crate::table::{self, KINDS, OPS};
 use std::fmt;
 

@@ -1,10 +1,40 @@
-//! The parts of a line. An error says what does not fit.
+//! The parts of a line, and of a case what more than one sort of file has. An error says what does
+//! not fit.
 
+use super::block::{Block, Mistake};
 use crate::image::{Image, FLAG_NAMES};
+use crate::question::Lent;
 
-/// More zero bytes than any memory has.
-const MOST_ZEROS: usize = 1 << 22;
-const HIGHEST_NUMBER: u32 = 7;
+/// More bytes than any memory or listing has.
+const MOST_BYTES: usize = 1 << 22;
+const LISTING_BASE: u32 = 0x1000;
+const MEMORY_BASE: u32 = 0x2000_0000;
+
+/// The lent memory and its base.
+pub fn lent_memory(block: &Block) -> Result<(u32, Vec<u8>), Mistake> {
+    Ok(block.may("memory", memory)?.unwrap_or((MEMORY_BASE, Vec::new())))
+}
+
+/// What was lent as it is afterwards.
+pub fn lent_after(block: &Block, before: Image, memory: &[u8]) -> Result<Lent, Mistake> {
+    let (mut after, mut memory) = (before, memory.to_vec());
+    block.may("after", |text| change(&mut after, text))?;
+    for line in block.all("memory-after") {
+        line.read(|text| change_memory(&mut memory, text))?;
+    }
+    Ok(Lent { image: after.bytes(), memory })
+}
+
+/// The listing, whose lines are joined, and its base.
+pub fn listing(block: &Block) -> Result<(Vec<u8>, u32), Mistake> {
+    let lines: Vec<Vec<u8>> =
+        block.all("listing").map(|line| line.read(bytes)).collect::<Result<_, _>>()?;
+    if lines.is_empty() {
+        return Err(block.lacks("listing"));
+    }
+    let base = block.may("base", |text| word(text).ok_or_else(|| wrong(text)))?;
+    Ok((lines.concat(), base.unwrap_or(LISTING_BASE)))
+}
 
 fn wrong(token: &str) -> String {
     format!("'{token}' does not fit here")
@@ -21,44 +51,65 @@ fn decimal<T: std::str::FromStr>(text: &str) -> Option<T> {
     text.parse().ok().filter(|_| digits)
 }
 
-pub fn number(text: &str) -> Result<u32, String> {
-    decimal(text).filter(|&number| number <= HIGHEST_NUMBER).ok_or_else(|| wrong(text))
+pub fn number(text: &str, highest: u32) -> Result<u32, String> {
+    decimal(text).filter(|&number| number <= highest).ok_or_else(|| wrong(text))
 }
 
-/// Hex digits in pairs, and `zero*N`.
+/// `NUMBER at PLACE steps COUNT`: a number after each of the words, the first of which is the line's
+/// own; the first number is at most the highest.
+pub fn report<const N: usize>(
+    text: &str,
+    highest: u32,
+    words: [&str; N],
+) -> Result<[u32; N], String> {
+    let tokens: Vec<&str> = words.into_iter().take(1).chain(text.split_whitespace()).collect();
+    if tokens.len() != 2 * N || !tokens.iter().step_by(2).eq(&words) {
+        return Err(wrong(text));
+    }
+    let mut numbers = [0; N];
+    for (place, token) in tokens.iter().skip(1).step_by(2).enumerate() {
+        numbers[place] = number(token, if place == 0 { highest } else { u32::MAX })?;
+    }
+    Ok(numbers)
+}
+
+/// Hex digits in pairs, `zero*N`, and `1500*N` for bytes that are repeated.
 pub fn bytes(text: &str) -> Result<Vec<u8>, String> {
     let mut bytes = Vec::new();
     for token in text.split_whitespace() {
-        match token.strip_prefix("zero*") {
-            Some(count) => {
-                let count = decimal(count).filter(|&count: &usize| count <= MOST_ZEROS);
-                bytes.resize(bytes.len() + count.ok_or_else(|| wrong(token))?, 0);
+        let (once, times) = match token.split_once('*') {
+            Some(("zero", times)) => (Some(vec![0]), decimal(times)),
+            Some((once, times)) => (pairs(once), decimal(times)),
+            None => (pairs(token), Some(1)),
+        };
+        match (once, times) {
+            (Some(once), Some(times)) if once.len().saturating_mul(times) <= MOST_BYTES => {
+                bytes.extend(once.repeat(times));
             }
-            None => pairs(token, &mut bytes).ok_or_else(|| wrong(token))?,
+            _ => return Err(wrong(token)),
         }
     }
     Ok(bytes)
 }
 
-fn pairs(token: &str, bytes: &mut Vec<u8>) -> Option<()> {
+fn pairs(token: &str) -> Option<Vec<u8>> {
     let digits = token.bytes().map(|digit| char::from(digit).to_digit(16));
     let digits: Vec<u32> = digits.collect::<Option<_>>()?;
     if digits.len() % 2 != 0 {
         return None;
     }
-    bytes.extend(digits.chunks(2).map(|pair| (pair[0] * 16 + pair[1]) as u8));
-    Some(())
+    Some(digits.chunks(2).map(|pair| (pair[0] * 16 + pair[1]) as u8).collect())
 }
 
 /// `BASE: BYTES`.
-pub fn memory(text: &str) -> Result<(u32, Vec<u8>), String> {
+fn memory(text: &str) -> Result<(u32, Vec<u8>), String> {
     let (base, content) = text.split_once(':').ok_or_else(|| wrong(text))?;
     let base = word(base.trim()).ok_or_else(|| wrong(base))?;
     Ok((base, bytes(content)?))
 }
 
 /// `OFFSET: BYTES`, written over memory.
-pub fn change_memory(memory: &mut [u8], text: &str) -> Result<(), String> {
+fn change_memory(memory: &mut [u8], text: &str) -> Result<(), String> {
     let (offset, content) = text.split_once(':').ok_or_else(|| wrong(text))?;
     let offset: usize = decimal(offset.trim()).ok_or_else(|| wrong(offset))?;
     let content = bytes(content)?;
@@ -84,7 +135,7 @@ pub fn machine(text: &str) -> Result<Image, String> {
 }
 
 /// `R1=12345678 N=1 wait=none`.
-pub fn change(image: &mut Image, text: &str) -> Result<(), String> {
+fn change(image: &mut Image, text: &str) -> Result<(), String> {
     each_once(text, |token| match token.split_once('=')? {
         ("wait", list) => waiting(image, list),
         (name, value) => match FLAG_NAMES.iter().position(|flag| *flag == name) {
