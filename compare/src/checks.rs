@@ -1,7 +1,7 @@
 //! Checks of listings: the number and the place.
 
-mod base;
-mod fault;
+pub mod base;
+pub mod fault;
 mod fixed;
 pub mod listing;
 mod long;

@@ -12,14 +12,17 @@ mod proved;
 mod question;
 mod random_record;
 mod records;
+mod runs;
+mod samples;
 mod steps;
 mod stock;
 mod table;
+mod unfit;
 mod worked;
 
 use std::process::ExitCode;
 
-const USAGE: &str = "usage: compare records | steps [SEED] | checks [SEED] | bench
+const USAGE: &str = "usage: compare records | steps [SEED] | checks [SEED] | runs [SEED] | bench
      | worked FILE | worked-checks FILE LEAST | worked-runs FILE LEAST
 SEED and LEAST, the fewest cases that a file has to have, are decimal numbers.";
 
@@ -53,6 +56,8 @@ fn outcome(words: &[&str]) -> Option<Result<String, String>> {
         ["steps", seed] => steps::run(seed.parse().ok()?),
         ["checks"] => checks::run(checks::SEED),
         ["checks", seed] => checks::run(seed.parse().ok()?),
+        ["runs"] => runs::run(runs::SEED),
+        ["runs", seed] => runs::run(seed.parse().ok()?),
         ["worked", file] => worked::steps(file, 1),
         ["worked-checks", file, least] => worked::checks(file, least.parse().ok()?),
         ["worked-runs", file, least] => worked::runs(file, least.parse().ok()?),

@@ -87,15 +87,22 @@ fn record_of(prng: &mut Prng, kind: u8) -> Vec<u8> {
 pub fn allowed(prng: &mut Prng, waiting: usize) -> Vec<u8> {
     loop {
         let kind = kind(prng);
-        // A kind with many rules is tried again before another comes up; some kinds never fit.
-        for _ in 0..16 {
-            let mut record = record_of(prng, kind);
-            bind(&mut record);
-            if second::record::judge(&record, waiting) == 0 {
-                return record;
-            }
+        if let Some(record) = fitting(prng, kind, waiting) {
+            return record;
         }
     }
+}
+
+/// As `allowed`, and of a kind. A kind with many rules is tried often; some never fit.
+pub fn fitting(prng: &mut Prng, kind: u8, waiting: usize) -> Option<Vec<u8>> {
+    for _ in 0..16 {
+        let mut record = record_of(prng, kind);
+        bind(&mut record);
+        if second::record::judge(&record, waiting) == 0 {
+            return Some(record);
+        }
+    }
+    None
 }
 
 fn register(prng: &mut Prng, common: u8) -> u8 {

@@ -3,7 +3,7 @@
 mod aim;
 mod large;
 mod record;
-mod scene;
+pub mod scene;
 mod sights;
 mod spoil;
 mod tally;

@@ -1,23 +1,16 @@
-//! The sample listings, which a compiler made, and mistakes in them.
+//! The sample listings, and mistakes in them.
 
 use super::{Comparison, BASE};
 use crate::prng::Prng;
-use crate::{random_record, Outcome};
-use std::path::{Path, PathBuf};
+use crate::{random_record, samples, Outcome};
 
-const FOLDER: &str = concat!(env!("CARGO_MANIFEST_DIR"), "/../samples");
 const MISTAKES: usize = 1_000;
 
 pub fn all(comparison: &mut Comparison, prng: &mut Prng) -> Outcome {
-    let files = files().map_err(|error| format!("{FOLDER}: {error}"))?;
-    if files.is_empty() {
-        return Err(format!("{FOLDER}: no sample listings"));
-    }
-    for file in files {
-        let listing =
-            std::fs::read(&file).map_err(|error| format!("{}: {error}", file.display()))?;
+    for sample in samples::samples()? {
+        let listing = sample.listing;
         if comparison.put(&listing, BASE)? != 0 {
-            return Err(format!("{}: a sample listing is accepted, this is not", file.display()));
+            return Err(format!("{}: a sample listing is accepted, this is not", sample.name));
         }
         for length in 0..listing.len() {
             comparison.put(&listing[..length], BASE)?;
@@ -29,17 +22,4 @@ pub fn all(comparison: &mut Comparison, prng: &mut Prng) -> Outcome {
         }
     }
     Ok(())
-}
-
-/// In the order of their names, so that every run is the same.
-fn files() -> std::io::Result<Vec<PathBuf>> {
-    let mut files = Vec::new();
-    for entry in Path::new(FOLDER).read_dir()? {
-        let path = entry?.path();
-        if path.extension().map_or(false, |extension| extension == "bin") {
-            files.push(path);
-        }
-    }
-    files.sort();
-    Ok(files)
 }

@@ -63,10 +63,22 @@ impl Answer {
     }
 
     /// Number, place and count, out of the room.
-    fn words(&self) -> Option<[u32; 3]> {
+    pub fn words(&self) -> Option<[u32; 3]> {
         let room: &[u8; ROOM] = self.room[..].try_into().ok()?;
         let word = |at: usize| u32::from_le_bytes([0, 1, 2, 3].map(|byte| room[at + byte]));
         Some([0, 4, 8].map(word))
+    }
+
+    /// The steps completed; none where nothing was written to the room.
+    pub fn count(&self) -> u32 {
+        match self.words() {
+            Some([_, _, count]) if !self.is_untouched() => count,
+            _ => 0,
+        }
+    }
+
+    fn is_untouched(&self) -> bool {
+        self.room.iter().all(|&byte| byte == UNTOUCHED)
     }
 }
 
@@ -107,7 +119,7 @@ impl super::Question for Question {
 impl Answer {
     fn room_text(&self) -> String {
         match self.words() {
-            Some(_) if self.room.iter().all(|&byte| byte == UNTOUCHED) => "untouched".to_string(),
+            Some(_) if self.is_untouched() => "untouched".to_string(),
             Some([number, place, count]) => format!("{number} at {place} steps {count}"),
             None => hex::line(&self.room),
         }

@@ -21,6 +21,11 @@ impl<Q: Question> Sides<Q> {
         self.count
     }
 
+    /// The last answer that both gave.
+    pub fn answer(&self) -> &Q::Answer {
+        &self.second
+    }
+
     /// The answer that both gave; an error says how theirs differ.
     pub fn put(&mut self, question: &Q) -> Result<&Q::Answer, String> {
         self.count += 1;

@@ -1,0 +1,95 @@
+//! Runs: number, place and count, the machine's image and every byte of memory.
+
+mod counts;
+mod long;
+mod pieces;
+mod samples;
+mod scene;
+mod sights;
+mod spoil;
+mod start;
+mod tally;
+mod trace;
+mod writer;
+
+use crate::prng::Prng;
+use crate::question::run::{Answer, Question};
+use crate::question::Sides;
+use crate::Outcome;
+use tally::Tally;
+
+pub const SEED: u64 = 0x5209_2026;
+const SCENES: u64 = 70_000;
+const USED_UP: u32 = 10;
+/// Steps enough for nearly every program that has an end.
+const ENOUGH: u32 = 400;
+
+pub fn run(seed: u64) -> Result<String, String> {
+    let mut prng = Prng::new(seed);
+    let mut comparison = Comparison { sides: Sides::new("run", seed), tally: Tally::new() };
+    samples::all(&mut comparison)?;
+    long::listings(&mut comparison)?;
+    for _ in 0..SCENES {
+        comparison.scene(&mut prng)?;
+    }
+    let (tally, count) = (comparison.tally, comparison.sides.count());
+    match tally.gaps() {
+        gaps if gaps.is_empty() => {
+            Ok(format!("{tally}runs: {count} compared, no difference (seed {seed})"))
+        }
+        gaps => Err(format!("{tally}runs: not all was tried: {}", gaps.join("; "))),
+    }
+}
+
+pub struct Comparison {
+    sides: Sides<Question>,
+    tally: Tally,
+}
+
+impl Comparison {
+    /// A program, its start, and runs with several budgets.
+    fn scene(&mut self, prng: &mut Prng) -> Outcome {
+        let mut scene = scene::scene(prng);
+        spoil::listing(prng, &mut scene);
+        let start = start::start(prng, &mut scene);
+        self.tally.scene(start, scene.sort);
+        let mut question = spoil::question(prng, scene);
+        question.budget = ENOUGH;
+        let (number, count) = self.put(&question)?;
+        self.tally.steps(&question, count);
+        for (sort, budget) in budgets(prng, number, count) {
+            self.tally.budget(sort);
+            question.budget = budget;
+            self.put(&question)?;
+        }
+        Ok(())
+    }
+
+    /// Number and count, which both sides gave.
+    fn put(&mut self, question: &Question) -> Result<(u32, u32), String> {
+        let answer = self.sides.put(question)?;
+        self.tally.run(question, answer);
+        Ok((answer.number, answer.count()))
+    }
+
+    /// The last answer.
+    fn answer(&self) -> &Answer {
+        self.sides.answer()
+    }
+}
+
+/// Further budgets for a run that ended so, by their sort. The largest only where that run had an
+/// end of its own.
+fn budgets(prng: &mut Prng, number: u32, count: u32) -> Vec<(usize, u32)> {
+    let small = prng.pick(&[(0, 0), (1, 1)]);
+    let fewer = (6, prng.below(count.max(1)));
+    let most = (5, u32::MAX);
+    match (number, count) {
+        (USED_UP, _) => vec![small, fewer],
+        (_, 0) => vec![prng.pick(&[small, most])],
+        _ => {
+            let near = prng.pick(&[(2, count), (2, count), (4, count + 1), fewer, small]);
+            vec![most, (3, count - 1), near]
+        }
+    }
+}

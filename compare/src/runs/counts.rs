@@ -1,0 +1,37 @@
+//! How often each of some sorts came up.
+
+use std::fmt;
+
+pub struct Counts<const SORTS: usize> {
+    title: &'static str,
+    names: [&'static str; SORTS],
+    counts: [u64; SORTS],
+}
+
+impl<const SORTS: usize> Counts<SORTS> {
+    pub fn new(title: &'static str, names: [&'static str; SORTS]) -> Counts<SORTS> {
+        Counts { title, names, counts: [0; SORTS] }
+    }
+
+    pub fn add(&mut self, sort: usize) {
+        self.counts[sort] += 1;
+    }
+
+    /// The sorts that came up fewer times than the least.
+    pub fn gaps(&self, least: u64) -> Vec<String> {
+        let few = self.names.iter().zip(self.counts).filter(|&(_, count)| count < least);
+        few.map(|(name, count)| format!("{}: {name} {count} times", self.title)).collect()
+    }
+}
+
+impl<const SORTS: usize> fmt::Display for Counts<SORTS> {
+    fn fmt(&self, f: &mut fmt::Formatter<'_>) -> fmt::Result {
+        let each: Vec<String> = self
+            .names
+            .iter()
+            .zip(self.counts)
+            .map(|(name, count)| format!("{name} {count}"))
+            .collect();
+        write!(f, "{}: {}", self.title, each.join(", "))
+    }
+}

@@ -1,0 +1,92 @@
+//! Where a run begins, and with what waiting.
+
+use super::scene::Scene;
+use crate::checks::listing::{end_of, spots, IF_THEN};
+use crate::prng::Prng;
+
+pub const STARTS: [&str; 11] = [
+    "at the base",
+    "at another record outside blocks",
+    "there with conditions waiting",
+    "in a block",
+    "there with none waiting",
+    "there with others waiting",
+    "between records",
+    "before the base",
+    "past the end",
+    "at the end",
+    "there with conditions waiting (R22)",
+];
+pub const BASE: usize = 0;
+const AL: u8 = 14;
+const PC: usize = 15;
+
+/// Mostly at the base, for all that comes of a program comes from there. Gives which of STARTS.
+pub fn start(prng: &mut Prng, scene: &mut Scene) -> usize {
+    let sort = if prng.once_in(2) { BASE } else { prng.below(STARTS.len() as u32) as usize };
+    let (sort, (at, waiting)) = match place(prng, scene, sort) {
+        Some(place) => (sort, place),
+        None => (BASE, (0, Vec::new())),
+    };
+    scene.image.registers[PC] = scene.base.wrapping_add(at as u32) & !1;
+    scene.image.count = waiting.len() as u8;
+    scene.image.conditions = [0; 4];
+    scene.image.conditions[..waiting.len()].copy_from_slice(&waiting);
+    sort
+}
+
+/// How far from the base, and the conditions waiting; None where the listing has no such place.
+fn place(prng: &mut Prng, scene: &Scene, sort: usize) -> Option<(i64, Vec<u8>)> {
+    let (spots, end) = (spots(&scene.records), end_of(&scene.records));
+    let waiting = waiting(scene);
+    let outside: Vec<usize> = (1..spots.len()).filter(|&at| spots[at].outside).collect();
+    let inside: Vec<usize> = (1..spots.len()).filter(|&at| !spots[at].outside).collect();
+    let mut one = |from: &[usize]| (!from.is_empty()).then(|| prng.pick(from));
+    let (outside, inside) = (one(&outside), one(&inside));
+    Some(match sort {
+        BASE => (0, Vec::new()),
+        1 => (spots[outside?].at, Vec::new()),
+        2 => (spots[outside?].at, other(prng, &[])),
+        3 => (spots[inside?].at, waiting[inside?].clone()),
+        4 => (spots[inside?].at, Vec::new()),
+        5 => (spots[inside?].at, other(prng, &waiting[inside?])),
+        6 => (spots.windows(2).find(|pair| pair[1].at - pair[0].at == 4)?[0].at + 2, Vec::new()),
+        7 => (-2 - 2 * i64::from(prng.below(4)), Vec::new()),
+        8 => (end + 2 + 2 * i64::from(prng.below(4)), Vec::new()),
+        9 => (end, Vec::new()),
+        _ => (end, other(prng, &[])),
+    })
+}
+
+/// What waits at each record: "An IT record's block is the next count records."
+fn waiting(scene: &Scene) -> Vec<Vec<u8>> {
+    let mut waiting = vec![Vec::new()];
+    for record in &scene.records {
+        let after = match (waiting.last().map(|now| &now[..]), &record[..]) {
+            (Some([]), &[IF_THEN, _, condition, count, elses]) => {
+                let turns = (0..count.min(4)).map(|at| condition ^ (elses << 1) >> at & 1);
+                turns.collect()
+            }
+            (Some([_, rest @ ..]), _) => rest.to_vec(),
+            _ => Vec::new(),
+        };
+        waiting.push(after);
+    }
+    waiting
+}
+
+/// Conditions of a good machine, other than these: one less, one more, the inverses, or any.
+fn other(prng: &mut Prng, these: &[u8]) -> Vec<u8> {
+    let inverse = |&condition: &u8| if condition == AL { 0 } else { condition ^ 1 };
+    let mut other = match (prng.below(4), these) {
+        (0, [_, rest @ .., _]) => [&these[..1], rest].concat(),
+        (1, [first, ..]) if these.len() < 4 => [these, &[*first]].concat(),
+        (2, [_, ..]) => these.iter().map(inverse).collect(),
+        (_, _) => vec![prng.below(15) as u8; 1 + prng.below(4) as usize],
+    };
+    if other == these {
+        other[0] = inverse(&other[0]);
+        other.truncate(1);
+    }
+    other
+}

@@ -1,0 +1,123 @@
+//! How the runs began and ended, and whether all that is to be tried was.
+
+use super::counts::Counts;
+use super::scene::MEMORIES;
+use super::sights::SIGHTS;
+use super::start::STARTS;
+use super::trace::trace;
+use crate::question::run::{Answer, Question, ROOM};
+use std::fmt;
+
+/// Of each number.
+const LEAST: u64 = 500;
+/// Of all else, in hundreds of thousands of runs.
+const FEW: u64 = 20;
+
+const NUMBERS: [&str; 11] = ["0", "1", "2", "3", "4", "5", "6", "7", "8", "9", "10"];
+const UNFIT: [&str; 6] = [
+    "a machine that is not good",
+    "an image that is none",
+    "an answer of another length",
+    "memory over its limit",
+    "memory past 2^32",
+    "memory at its limit",
+];
+pub const BUDGETS: [&str; 7] =
+    ["0", "1", "the steps to the end", "one less", "one more", "4294967295", "another"];
+const LIMIT: usize = 1_048_576;
+
+pub struct Tally {
+    numbers: Counts<11>,
+    starts: Counts<11>,
+    memories: Counts<6>,
+    unfit: Counts<6>,
+    budgets: Counts<7>,
+    /// Refused steps, where an earlier step had changed memory.
+    changed: Counts<3>,
+    sights: Counts<{ SIGHTS.len() }>,
+    steps: u64,
+}
+
+impl Tally {
+    pub fn new() -> Tally {
+        Tally {
+            numbers: Counts::new("ended with", NUMBERS),
+            starts: Counts::new("began", STARTS),
+            memories: Counts::new("memory", MEMORIES),
+            unfit: Counts::new("limits", UNFIT),
+            budgets: Counts::new("budget", BUDGETS),
+            changed: Counts::new("refused with memory changed before by", ["5", "6", "7"]),
+            sights: Counts::new("among the steps", SIGHTS.map(|(name, _)| name)),
+            steps: 0,
+        }
+    }
+
+    pub fn scene(&mut self, start: usize, memory: usize) {
+        self.starts.add(start);
+        self.memories.add(memory);
+    }
+
+    pub fn budget(&mut self, sort: usize) {
+        self.budgets.add(sort);
+    }
+
+    pub fn run(&mut self, question: &Question, answer: &Answer) {
+        self.numbers.add(answer.number as usize);
+        self.steps += u64::from(answer.count());
+        if let (5..=7, true) = (answer.number, answer.lent.memory != question.memory) {
+            self.changed.add(answer.number as usize - 5);
+        }
+        if let Some(sort) = unfit(question) {
+            self.unfit.add(sort);
+        }
+    }
+
+    pub fn steps(&mut self, question: &Question, count: u32) {
+        trace(question, count, |look| {
+            for (sort, (_, sees)) in SIGHTS.iter().enumerate() {
+                if sees(look) {
+                    self.sights.add(sort);
+                }
+            }
+        });
+    }
+
+    pub fn gaps(&self) -> Vec<String> {
+        let few = [
+            self.numbers.gaps(LEAST),
+            self.starts.gaps(FEW),
+            self.memories.gaps(FEW),
+            self.unfit.gaps(FEW),
+            self.budgets.gaps(FEW),
+            self.changed.gaps(FEW),
+            self.sights.gaps(FEW),
+        ];
+        few.concat()
+    }
+}
+
+fn unfit(question: &Question) -> Option<usize> {
+    let (image, length) = (&question.image, question.memory.len());
+    let machine = second::image::decode(image).filter(|_| crate::image::is_one(image));
+    match machine {
+        _ if question.room != ROOM => Some(2),
+        None => Some(1),
+        Some(machine) if !machine.good() => Some(0),
+        _ if length > LIMIT => Some(3),
+        _ if question.memory_base as usize + length > 1 << 32 => Some(4),
+        _ => (length == LIMIT).then(|| 5),
+    }
+}
+
+impl fmt::Display for Tally {
+    fn fmt(&self, f: &mut fmt::Formatter<'_>) -> fmt::Result {
+        writeln!(f, "{}", self.numbers)?;
+        writeln!(f, "{}", self.starts)?;
+        writeln!(f, "{}", self.memories)?;
+        writeln!(f, "{}", self.unfit)?;
+        writeln!(f, "{}", self.budgets)?;
+        writeln!(f, "{}", self.changed)?;
+        writeln!(f, "steps in all: {}; of one run of each scene", self.steps)?;
+        writeln!(f, "{}", self.sights)
+    }
+}
