@@ -47,12 +47,16 @@ pub fn is_one(image: &[u8]) -> bool {
         && conditions.into_iter().all(|(place, &condition)| condition <= highest(place))
 }
 
+/// A register's word in an image that is one.
+pub fn register(image: &[u8], register: usize) -> u32 {
+    u32::from_le_bytes([0, 1, 2, 3].map(|byte| image[4 * register + byte]))
+}
+
 /// What stands in an image of the right length, a name and a value each.
 pub fn parts(image: &[u8; BYTES]) -> Vec<(String, String)> {
     let mut parts = Vec::new();
-    for (register, word) in image[..FLAGS].chunks_exact(4).enumerate() {
-        let value = u32::from_le_bytes([word[0], word[1], word[2], word[3]]);
-        parts.push((format!("R{register}"), format!("{value:08X}")));
+    for number in 0..FLAGS / 4 {
+        parts.push((format!("R{number}"), format!("{:08X}", register(image, number))));
     }
     for (name, flag) in FLAG_NAMES.iter().zip(&image[FLAGS..COUNT]) {
         parts.push((name.to_string(), flag.to_string()));

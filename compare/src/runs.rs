@@ -1,6 +1,7 @@
 //! Runs: number, place and count, the machine's image and every byte of memory.
 
 mod counts;
+mod demand;
 mod long;
 mod pieces;
 mod samples;
@@ -16,6 +17,7 @@ use crate::prng::Prng;
 use crate::question::run::{Answer, Question};
 use crate::question::Sides;
 use crate::Outcome;
+use demand::Demand;
 use tally::Tally;
 
 pub const SEED: u64 = 0x5209_2026;
@@ -26,27 +28,33 @@ const ENOUGH: u32 = 400;
 
 pub fn run(seed: u64) -> Result<String, String> {
     let mut prng = Prng::new(seed);
-    let mut comparison = Comparison { sides: Sides::new("run", seed), tally: Tally::new() };
+    let mut comparison = Comparison::new(seed);
     samples::all(&mut comparison)?;
     long::listings(&mut comparison)?;
     for _ in 0..SCENES {
         comparison.scene(&mut prng)?;
     }
-    let (tally, count) = (comparison.tally, comparison.sides.count());
-    match tally.gaps() {
+    let Comparison { sides, tally, demand } = comparison;
+    match [tally.gaps(), demand.gaps()].concat() {
         gaps if gaps.is_empty() => {
-            Ok(format!("{tally}runs: {count} compared, no difference (seed {seed})"))
+            let count = sides.count();
+            Ok(format!("{tally}{demand}runs: {count} compared, no difference (seed {seed})"))
         }
-        gaps => Err(format!("{tally}runs: not all was tried: {}", gaps.join("; "))),
+        gaps => Err(format!("{tally}{demand}runs: not all was tried: {}", gaps.join("; "))),
     }
 }
 
 pub struct Comparison {
     sides: Sides<Question>,
     tally: Tally,
+    demand: Demand,
 }
 
 impl Comparison {
+    fn new(seed: u64) -> Comparison {
+        Comparison { sides: Sides::new("run", seed), tally: Tally::new(), demand: Demand::new() }
+    }
+
     /// A program, its start, and runs with several budgets.
     fn scene(&mut self, prng: &mut Prng) -> Outcome {
         let mut scene = scene::scene(prng);
@@ -57,6 +65,7 @@ impl Comparison {
         question.budget = ENOUGH;
         let (number, count) = self.put(&question)?;
         self.tally.steps(&question, count);
+        self.demand.put(&question)?;
         for (sort, budget) in budgets(prng, number, count) {
             self.tally.budget(sort);
             question.budget = budget;

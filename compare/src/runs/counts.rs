@@ -17,6 +17,10 @@ impl<const SORTS: usize> Counts<SORTS> {
         self.counts[sort] += 1;
     }
 
+    pub fn sum(&self) -> u64 {
+        self.counts.iter().sum()
+    }
+
     /// The sorts that came up fewer times than the least.
     pub fn gaps(&self, least: u64) -> Vec<String> {
         let few = self.names.iter().zip(self.counts).filter(|&(_, count)| count < least);

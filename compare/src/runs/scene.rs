@@ -76,7 +76,7 @@ fn plan(prng: &mut Prng, sort: usize) -> Plan {
     };
     Plan {
         records: records as usize,
-        stray: prng.pick(&[None, None, Some(12), Some(4)]),
+        stray: prng.pick(&[None, None, Some(8), Some(2)]),
         fault: prng.pick(&[None, None, None, Some(40), Some(12)]),
         literal: sort == AT_THE_LISTING,
     }

@@ -1,6 +1,8 @@
 //! What must have been among the steps done, beside every kind, op and condition: what random
 //! numbers hit only when they are aimed.
 
+use crate::image;
+
 /// A step done, whose condition passed.
 pub struct Look<'a> {
     pub image: &'a [u8],
@@ -9,8 +11,7 @@ pub struct Look<'a> {
 
 impl Look<'_> {
     fn register(&self, register: u8) -> u32 {
-        let word = &self.image[4 * usize::from(register)..];
-        u32::from_le_bytes([word[0], word[1], word[2], word[3]])
+        image::register(self.image, register.into())
     }
 
     /// The amount of kind 03.
