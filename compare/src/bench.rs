@@ -3,6 +3,7 @@
 
 mod clock;
 mod listings;
+mod runs;
 mod stream;
 
 use crate::image::Image;
@@ -23,7 +24,13 @@ const MEMORY: usize = 4_096;
 
 pub fn run() -> Result<String, String> {
     let stream = Stream::new(SEED, RECORDS);
-    let lines = [steps(&stream)?, listings::branches()?, listings::plain()?];
+    let lines = [
+        steps(&stream)?,
+        listings::branches()?,
+        listings::plain()?,
+        runs::long()?,
+        runs::all_samples()?,
+    ];
     Ok(lines.join("\n"))
 }
 

@@ -4,7 +4,7 @@ mod counts;
 mod demand;
 mod long;
 mod pieces;
-mod samples;
+pub mod samples;
 mod scene;
 mod sights;
 mod spoil;
