@@ -60,14 +60,14 @@ impl Comparison {
         let mut scene = scene::scene(prng);
         spoil::listing(prng, &mut scene);
         let start = start::start(prng, &mut scene);
-        self.tally.scene(start, scene.sort);
+        self.tally.scene(start, scene.lies);
         let mut question = spoil::question(prng, scene);
         question.budget = ENOUGH;
         let (number, count) = self.put(&question)?;
         self.tally.steps(&question, count);
         self.demand.put(&question)?;
-        for (sort, budget) in budgets(prng, number, count) {
-            self.tally.budget(sort);
+        for budget in budgets(prng, number, count) {
+            self.tally.budget(budget, count);
             question.budget = budget;
             self.put(&question)?;
         }
@@ -87,18 +87,15 @@ impl Comparison {
     }
 }
 
-/// Further budgets for a run that ended so, by their sort. The largest only where that run had an
-/// end of its own.
-fn budgets(prng: &mut Prng, number: u32, count: u32) -> Vec<(usize, u32)> {
-    let small = prng.pick(&[(0, 0), (1, 1)]);
-    let fewer = (6, prng.below(count.max(1)));
-    let most = (5, u32::MAX);
+/// Further budgets for a run that ended so: the largest only where that run had an end of its own.
+fn budgets(prng: &mut Prng, number: u32, count: u32) -> Vec<u32> {
+    let (small, fewer) = (prng.below(2), prng.below(count.max(1)));
     match (number, count) {
         (USED_UP, _) => vec![small, fewer],
-        (_, 0) => vec![prng.pick(&[small, most])],
+        (_, 0) => vec![prng.pick(&[small, u32::MAX])],
         _ => {
-            let near = prng.pick(&[(2, count), (2, count), (4, count + 1), fewer, small]);
-            vec![most, (3, count - 1), near]
+            let near = prng.pick(&[count, count, count + 1, fewer, small]);
+            vec![u32::MAX, count - 1, near]
         }
     }
 }

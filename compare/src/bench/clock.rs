@@ -9,6 +9,10 @@ impl Rounds {
         Rounds(Vec::new())
     }
 
+    pub fn last(&self) -> Duration {
+        self.0.last().copied().unwrap_or_default()
+    }
+
     pub fn take<T>(&mut self, round: impl FnOnce() -> T) -> T {
         let start = Instant::now();
         let end = round();

@@ -12,6 +12,8 @@ use std::time::Duration;
 
 const SEED: u64 = 0xBE4C_0520;
 const ROUNDS: usize = 5;
+/// A round that takes longer is the only one.
+const LONG: Duration = Duration::from_secs(2);
 const RECORDS: usize = 1_000;
 const STEPS: u32 = 1_000_000;
 const LISTING_BASE: u32 = 0x1000;
@@ -35,7 +37,9 @@ pub fn long() -> Result<String, String> {
     let (times, count) = times(&question)?;
     let [proved, second] = times.map(|time| (rate(count as usize, time), time.as_secs_f64() * 1e3));
     let lines = [
-        format!("run, {count} steps in a loop through {RECORDS} records, median of {ROUNDS}:"),
+        format!(
+            "run, {count} steps in a loop through {RECORDS} records, median of {ROUNDS} or one:"
+        ),
         format!("  proved {:10.1} ms  {:12.0} steps a second", proved.1, proved.0),
         format!("  second {:10.1} ms  {:12.0} steps a second", second.1, second.0),
         format!("  proved to second: {:.2}", proved.0 / second.0),
@@ -54,7 +58,7 @@ fn stream_of(count: usize) -> Records {
 }
 
 pub fn all_samples() -> Result<String, String> {
-    let mut lines = vec![format!("runs of the samples, median of {ROUNDS}:")];
+    let mut lines = vec![format!("runs of the samples, median of {ROUNDS} or one:")];
     for sample in samples()? {
         let (times, count) = times(&question(&sample))?;
         let [proved, second] = times.map(|time| time.as_secs_f64() * 1e3);
@@ -75,6 +79,9 @@ fn times(question: &Question) -> Result<([Duration; 2], u32), String> {
         rounds[1].take(|| question.ask_second(&mut second));
         if proved != second {
             return Err("the sides end a run differently: see `compare runs`".to_string());
+        }
+        if rounds[0].last() > LONG {
+            break;
         }
     }
     Ok((rounds.map(median), second.count()))

@@ -32,8 +32,8 @@ pub struct Answer {
 }
 
 impl Question {
-    /// "An image that is none, or an answer of another length than 12, is number 1 and nothing (also
-    /// not answer) is changed."
+    /// "An image that is none, or an answer of another length, is number 1, and nothing is changed,
+    /// `answer` neither."
     fn is_none(&self) -> bool {
         self.room != ROOM || !image::is_one(&self.image)
     }

@@ -16,19 +16,25 @@ const STACK_BYTES: u32 = 96;
 /// More than the machine bytes of a program and what a load reaches past them.
 const LITERAL_BYTES: u32 = 512;
 
-pub const MEMORIES: [&str; 6] = [
-    "at 20000000",
-    "at an address that is no multiple of 4",
-    "at 0",
-    "up to 2^32",
-    "at the listing",
-    "empty",
+#[derive(Clone, Copy, PartialEq, Eq)]
+pub enum Lies {
+    Usual,
+    NoMultiple,
+    At0,
+    UpToTop,
+    AtListing,
+    Empty,
+}
+use Lies::*;
+
+pub const MEMORIES: [(Lies, &str); 6] = [
+    (Usual, "at 20000000"),
+    (NoMultiple, "at an address that is no multiple of 4"),
+    (At0, "at 0"),
+    (UpToTop, "up to 2^32"),
+    (AtListing, "at the listing"),
+    (Empty, "of 0 bytes"),
 ];
-const NO_MULTIPLE: usize = 1;
-const AT_0: usize = 2;
-const UP_TO_THE_TOP: usize = 3;
-const AT_THE_LISTING: usize = 4;
-const EMPTY: usize = 5;
 
 pub struct Scene {
     pub records: Records,
@@ -36,8 +42,7 @@ pub struct Scene {
     pub image: Image,
     pub memory: Vec<u8>,
     pub memory_base: u32,
-    /// Which of MEMORIES.
-    pub sort: usize,
+    pub lies: Lies,
 }
 
 /// Where the parts of memory are.
@@ -49,25 +54,29 @@ struct Map {
 }
 
 pub fn scene(prng: &mut Prng) -> Scene {
-    let sort = prng.pick(&[0, 0, 0, 0, 0, 0, 0, 0, 0, 1, 2, 3, 4, 4, 4, 5]);
-    let plan = plan(prng, sort);
+    let lies = match prng.below(16) {
+        0..=8 => Usual,
+        9 | 10 => AtListing,
+        _ => prng.pick(&MEMORIES).0,
+    };
+    let plan = plan(prng, lies);
     let (mut writer, end) = program(prng, plan);
     let size = end_of(&writer.records);
-    let base = match sort {
-        AT_THE_LISTING => LISTING_BASE,
+    let base = match lies {
+        AtListing => LISTING_BASE,
         _ if prng.once_in(4) => base(prng, size),
         _ => LISTING_BASE,
     };
     let links = prng.pick(&[To::Label(end), To::Label(end), To::Inside, To::PastEnd]);
     let link = writer.entry(Target { to: links, odd: true });
-    let map = map(prng, sort, writer.table.len() as u32);
+    let map = map(prng, lies, writer.table.len() as u32);
     let (records, table) = writer.finish(prng, &Setting { base, table: map.table });
     let image = machine(prng, &map, table[link]);
-    let memory = if sort == EMPTY { Vec::new() } else { memory(prng, &map, &table) };
-    Scene { records, base, image, memory, memory_base: map.base, sort }
+    let memory = if lies == Empty { Vec::new() } else { memory(prng, &map, &table) };
+    Scene { records, base, image, memory, memory_base: map.base, lies }
 }
 
-fn plan(prng: &mut Prng, sort: usize) -> Plan {
+fn plan(prng: &mut Prng, lies: Lies) -> Plan {
     let records = match prng.below(8) {
         0 => prng.below(4),
         1 | 2 => prng.below(16),
@@ -78,19 +87,19 @@ fn plan(prng: &mut Prng, sort: usize) -> Plan {
         records: records as usize,
         stray: prng.pick(&[None, None, Some(8), Some(2)]),
         fault: prng.pick(&[None, None, None, Some(40), Some(12)]),
-        literal: sort == AT_THE_LISTING,
+        literal: lies == AtListing,
     }
 }
 
-fn map(prng: &mut Prng, sort: usize, words: u32) -> Map {
-    let before = if sort == AT_THE_LISTING { LITERAL_BYTES } else { 0 };
+fn map(prng: &mut Prng, lies: Lies, words: u32) -> Map {
+    let before = if lies == AtListing { LITERAL_BYTES } else { 0 };
     let length = before + DATA_BYTES + 4 * words + STACK_BYTES + prng.below(8);
-    let base = match sort {
-        NO_MULTIPLE => MEMORY_BASE + 1 + prng.below(3),
-        AT_0 => 0,
-        UP_TO_THE_TOP => length.wrapping_neg(),
-        AT_THE_LISTING => LISTING_BASE,
-        _ => MEMORY_BASE,
+    let base = match lies {
+        NoMultiple => MEMORY_BASE + 1 + prng.below(3),
+        At0 => 0,
+        UpToTop => length.wrapping_neg(),
+        AtListing => LISTING_BASE,
+        Usual | Empty => MEMORY_BASE,
     };
     let data = (base + 3 & !3) + before;
     Map { base, length, data, table: data + DATA_BYTES }

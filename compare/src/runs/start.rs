@@ -4,57 +4,73 @@ use super::scene::Scene;
 use crate::checks::listing::{end_of, spots, IF_THEN};
 use crate::prng::Prng;
 
-pub const STARTS: [&str; 11] = [
-    "at the base",
-    "at another record outside blocks",
-    "there with conditions waiting",
-    "in a block",
-    "there with none waiting",
-    "there with others waiting",
-    "between records",
-    "before the base",
-    "past the end",
-    "at the end",
-    "there with conditions waiting (R22)",
+#[derive(Clone, Copy, PartialEq, Eq)]
+pub enum Start {
+    AtBase,
+    Outside,
+    OutsideWaiting,
+    Inside,
+    InsideNone,
+    InsideOther,
+    Between,
+    Before,
+    Past,
+    AtEnd,
+    AtEndWaiting,
+}
+use Start::*;
+
+pub const STARTS: [(Start, &str); 11] = [
+    (AtBase, "at the base"),
+    (Outside, "at another record outside blocks"),
+    (OutsideWaiting, "there with conditions waiting"),
+    (Inside, "in a block"),
+    (InsideNone, "there with none waiting"),
+    (InsideOther, "there with others waiting"),
+    (Between, "between records"),
+    (Before, "before the base"),
+    (Past, "past the end"),
+    (AtEnd, "at the end"),
+    (AtEndWaiting, "there with conditions waiting (R22)"),
 ];
-pub const BASE: usize = 0;
 const AL: u8 = 14;
 const PC: usize = 15;
 
-/// Mostly at the base, for all that comes of a program comes from there. Gives which of STARTS.
-pub fn start(prng: &mut Prng, scene: &mut Scene) -> usize {
-    let sort = if prng.once_in(2) { BASE } else { prng.below(STARTS.len() as u32) as usize };
-    let (sort, (at, waiting)) = match place(prng, scene, sort) {
-        Some(place) => (sort, place),
-        None => (BASE, (0, Vec::new())),
+/// Mostly at the base, for all that comes of a program comes from there.
+pub fn start(prng: &mut Prng, scene: &mut Scene) -> Start {
+    let start = if prng.once_in(2) { AtBase } else { prng.pick(&STARTS).0 };
+    let (start, (at, waiting)) = match place(prng, scene, start) {
+        Some(place) => (start, place),
+        None => (AtBase, (0, Vec::new())),
     };
     scene.image.registers[PC] = scene.base.wrapping_add(at as u32) & !1;
     scene.image.count = waiting.len() as u8;
     scene.image.conditions = [0; 4];
     scene.image.conditions[..waiting.len()].copy_from_slice(&waiting);
-    sort
+    start
 }
 
 /// How far from the base, and the conditions waiting; None where the listing has no such place.
-fn place(prng: &mut Prng, scene: &Scene, sort: usize) -> Option<(i64, Vec<u8>)> {
+fn place(prng: &mut Prng, scene: &Scene, start: Start) -> Option<(i64, Vec<u8>)> {
     let (spots, end) = (spots(&scene.records), end_of(&scene.records));
     let waiting = waiting(scene);
     let outside: Vec<usize> = (1..spots.len()).filter(|&at| spots[at].outside).collect();
     let inside: Vec<usize> = (1..spots.len()).filter(|&at| !spots[at].outside).collect();
     let mut one = |from: &[usize]| (!from.is_empty()).then(|| prng.pick(from));
     let (outside, inside) = (one(&outside), one(&inside));
-    Some(match sort {
-        BASE => (0, Vec::new()),
-        1 => (spots[outside?].at, Vec::new()),
-        2 => (spots[outside?].at, other(prng, &[])),
-        3 => (spots[inside?].at, waiting[inside?].clone()),
-        4 => (spots[inside?].at, Vec::new()),
-        5 => (spots[inside?].at, other(prng, &waiting[inside?])),
-        6 => (spots.windows(2).find(|pair| pair[1].at - pair[0].at == 4)?[0].at + 2, Vec::new()),
-        7 => (-2 - 2 * i64::from(prng.below(4)), Vec::new()),
-        8 => (end + 2 + 2 * i64::from(prng.below(4)), Vec::new()),
-        9 => (end, Vec::new()),
-        _ => (end, other(prng, &[])),
+    let by = 2 + 2 * i64::from(prng.below(4));
+    Some(match start {
+        AtBase => (0, Vec::new()),
+        Outside => (spots[outside?].at, Vec::new()),
+        OutsideWaiting => (spots[outside?].at, other(prng, &[])),
+        Inside => (spots[inside?].at, waiting[inside?].clone()),
+        InsideNone => (spots[inside?].at, Vec::new()),
+        InsideOther => (spots[inside?].at, other(prng, &waiting[inside?])),
+        Between => (spots.windows(2).find(|two| two[1].at - two[0].at == 4)?[0].at + 2, Vec::new()),
+        Before => (-by, Vec::new()),
+        Past => (end + by, Vec::new()),
+        AtEnd => (end, Vec::new()),
+        AtEndWaiting => (end, other(prng, &[])),
     })
 }
 

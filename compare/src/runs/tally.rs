@@ -1,9 +1,9 @@
 //! How the runs began and ended, and whether all that is to be tried was.
 
 use super::counts::Counts;
-use super::scene::MEMORIES;
+use super::scene::{Lies, MEMORIES};
 use super::sights::SIGHTS;
-use super::start::STARTS;
+use super::start::{Start, STARTS};
 use super::trace::trace;
 use crate::question::run::{Answer, Question, ROOM};
 use std::fmt;
@@ -22,8 +22,8 @@ const UNFIT: [&str; 6] = [
     "memory past 2^32",
     "memory at its limit",
 ];
-pub const BUDGETS: [&str; 7] =
-    ["0", "1", "the steps to the end", "one less", "one more", "4294967295", "another"];
+/// Beside the count of steps with which the run ended that had enough.
+const BUDGETS: [&str; 7] = ["0", "1", "its count", "one less", "one more", "4294967295", "another"];
 const LIMIT: usize = 1_048_576;
 
 pub struct Tally {
@@ -42,8 +42,8 @@ impl Tally {
     pub fn new() -> Tally {
         Tally {
             numbers: Counts::new("ended with", NUMBERS),
-            starts: Counts::new("began", STARTS),
-            memories: Counts::new("memory", MEMORIES),
+            starts: Counts::new("began", STARTS.map(|(_, name)| name)),
+            memories: Counts::new("memory", MEMORIES.map(|(_, name)| name)),
             unfit: Counts::new("limits", UNFIT),
             budgets: Counts::new("budget", BUDGETS),
             changed: Counts::new("refused with memory changed before by", ["5", "6", "7"]),
@@ -52,13 +52,21 @@ impl Tally {
         }
     }
 
-    pub fn scene(&mut self, start: usize, memory: usize) {
-        self.starts.add(start);
-        self.memories.add(memory);
+    pub fn scene(&mut self, start: Start, lies: Lies) {
+        self.starts.add(start as usize);
+        self.memories.add(lies as usize);
     }
 
-    pub fn budget(&mut self, sort: usize) {
-        self.budgets.add(sort);
+    pub fn budget(&mut self, budget: u32, count: u32) {
+        self.budgets.add(match budget {
+            0 => 0,
+            1 => 1,
+            u32::MAX => 5,
+            _ if budget == count => 2,
+            _ if budget + 1 == count => 3,
+            _ if budget == count + 1 => 4,
+            _ => 6,
+        });
     }
 
     pub fn run(&mut self, question: &Question, answer: &Answer) {

@@ -106,7 +106,8 @@ impl Writer {
             match lack {
                 Lack::Offset(label) => direct(record, from, at(label)),
                 Lack::Half { target, from, high } => {
-                    let here = from.map_or(0, |label| at(label) as u32 + 4 + setting.base);
+                    let here =
+                        from.map_or(0, |label| setting.base.wrapping_add(at(label) as u32 + 4));
                     half(record, word(target).wrapping_sub(here), high);
                 }
                 Lack::Literal(entry) => {
