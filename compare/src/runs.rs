@@ -21,7 +21,7 @@ use demand::Demand;
 use tally::Tally;
 
 pub const SEED: u64 = 0x5209_2026;
-const SCENES: u64 = 70_000;
+const SCENES: u64 = 100_000;
 const USED_UP: u32 = 10;
 /// Steps enough for nearly every program that has an end.
 const ENOUGH: u32 = 400;

@@ -42,7 +42,7 @@ pub fn long() -> Result<String, String> {
         ),
         format!("  proved {:10.1} ms  {:12.0} steps a second", proved.1, proved.0),
         format!("  second {:10.1} ms  {:12.0} steps a second", second.1, second.0),
-        format!("  proved to second: {:.2}", proved.0 / second.0),
+        format!("  proved takes {:.1} times as long", proved.1 / second.1),
     ];
     Ok(lines.join("\n"))
 }
@@ -62,10 +62,9 @@ pub fn all_samples() -> Result<String, String> {
     for sample in samples()? {
         let (times, count) = times(&question(&sample))?;
         let [proved, second] = times.map(|time| time.as_secs_f64() * 1e3);
-        let (name, ratio) = (sample.name, second / proved);
-        lines.push(format!(
-            "  {name:12} {count:7} steps: proved {proved:8.2} ms, second {second:7.2} ms, {ratio:.2}"
-        ));
+        let (name, ratio) = (sample.name, proved / second);
+        let times = format!("proved {proved:8.2} ms, second {second:7.2} ms, {ratio:.1} times");
+        lines.push(format!("  {name:12} {count:7} steps: {times}"));
     }
     Ok(lines.join("\n"))
 }
