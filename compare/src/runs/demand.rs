@@ -98,7 +98,7 @@ fn refused(question: &Question, ran: &Answer, place: u32, count: u32) -> Option<
     let (number, after) = step(question, &before, &site);
     let same = before.lent == ran.lent && after.lent == ran.lent;
     let at = site.place == place && number == ran.number;
-    (before.words() == Some([USED_UP, 0, count]) && same && at).then(|| ())
+    (before.words() == Some([USED_UP, 0, count]) && same && at).then_some(())
 }
 
 /// The run with a budget of one step less ends with 10; from there the record takes its next address

@@ -3,6 +3,8 @@
 //! table of addresses, R11 to nothing good, R12 is for addresses, R13 is a stack.
 
 mod access;
+mod call;
+mod counted;
 mod jump;
 
 use super::writer::{Label, Lack, Target, To, Writer};
@@ -19,7 +21,6 @@ pub const SP: u8 = 13;
 pub const LR: u8 = 14;
 const PC: u8 = 15;
 const AL: u8 = 14;
-const NE: u8 = 1;
 /// Pieces within pieces.
 const DEPTH: u32 = 3;
 
@@ -150,89 +151,6 @@ impl Author<'_> {
 
     fn branch(&mut self, record: &[u8], to: Label) {
         self.writer.push_lacking(record, Lack::Offset(to));
-    }
-
-    /// A register counts down to 0, or up from 0, and its branch goes back until then.
-    fn counted(&mut self, depth: u32) {
-        let counter = COUNTERS[self.counting];
-        let times = self.prng.pick(&[1, 2, 2, 3, 3, 4, 5, 6, 9, 20]);
-        let up = self.prng.once_in(3);
-        self.counting += 1;
-        self.writer.push(&[0x02, 10, 0, counter, 0, if up { 0 } else { times }, 0, 0, 0]);
-        let again = self.writer.label();
-        self.body(depth);
-        if up {
-            self.writer.push(&[0x02, 0, 0, counter, counter, 1, 0, 0, 0]);
-            self.writer.push(&[0x02, 12, 1, 0, counter, times, 0, 0, 0]);
-        } else {
-            self.writer.push(&[0x02, 2, 1, counter, counter, 1, 0, 0, 0]);
-        }
-        self.go_on(counter, up, again);
-        self.counting -= 1;
-    }
-
-    /// Back while the counter is not yet where it goes, which is also what the flags say.
-    fn go_on(&mut self, counter: u8, up: bool, again: Label) {
-        let form = self.prng.pick(&[0, 2]);
-        match self.prng.below(4) {
-            0 if !up => {
-                let out = self.writer.label();
-                self.branch(&[0x13, 0, 0, counter, 0], out);
-                self.branch(&[0x11, 0, form, AL, 0, 0, 0, 0], again);
-                self.writer.put_here(out);
-            }
-            1 => {
-                self.writer.push(&[0x14, 0, NE, 1, 0]);
-                self.branch(&[0x11, 0, form, AL, 0, 0, 0, 0], again);
-            }
-            _ => self.branch(&[0x11, 0, form, NE, 0, 0, 0, 0], again),
-        }
-    }
-
-    /// A function and a call of it, which the way round the function follows.
-    fn call(&mut self, depth: u32) {
-        let (function, over) = (self.writer.label(), self.writer.label());
-        if self.prng.once_in(3) {
-            let target = self.target(function);
-            self.address(target, None);
-            self.writer.push(&[0x12, 1, 0, SCRATCH]);
-        } else {
-            self.branch(&[0x11, 1, 2, AL, 0, 0, 0, 0], function);
-        }
-        if self.prng.once_in(2) {
-            self.simple(0);
-        }
-        let form = self.prng.pick(&[0, 2]);
-        self.branch(&[0x11, 0, form, AL, 0, 0, 0, 0], over);
-        self.writer.put_here(function);
-        self.function(depth);
-        self.writer.put_here(over);
-    }
-
-    /// Saves R14 and returns by what was saved, or leaves it as it is.
-    fn function(&mut self, depth: u32) {
-        let list = self.prng.below(64) as u8;
-        match self.prng.below(4) {
-            0 => {
-                self.writer.push(&[0x10, 3, 0, SP, 1, list, 0x40]);
-                self.body(depth);
-                self.writer.push(&[0x10, 0, self.prng.pick(&[0, 2]), SP, 1, list, 0x80]);
-            }
-            1 => {
-                self.writer.push(&[0x0D, 5, 2, LR, SP, 1, 0xFC, 0xFF]);
-                self.body(depth);
-                self.writer.push(&[0x0D, 0, 2, PC, SP, 2, 4, 0]);
-            }
-            returned => {
-                self.linked = true;
-                self.body(depth);
-                self.linked = false;
-                match returned {
-                    2 => self.writer.push(&[0x12, 0, 0, LR]),
-                    _ => self.writer.push(&[0x01, 10, 0, PC, 0, LR, 0, 0]),
-                }
-            }
-        }
     }
 
     /// A branch over some records, with a condition of its own or none.

@@ -101,7 +101,7 @@ fn map(prng: &mut Prng, lies: Lies, words: u32) -> Map {
         AtListing => LISTING_BASE,
         Usual | Empty => MEMORY_BASE,
     };
-    let data = (base + 3 & !3) + before;
+    let data = ((base + 3) & !3) + before;
     Map { base, length, data, table: data + DATA_BYTES }
 }
 

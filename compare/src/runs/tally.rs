@@ -113,7 +113,7 @@ fn unfit(question: &Question) -> Option<usize> {
         Some(machine) if !machine.good() => Some(0),
         _ if length > LIMIT => Some(3),
         _ if question.memory_base as usize + length > 1 << 32 => Some(4),
-        _ => (length == LIMIT).then(|| 5),
+        _ => (length == LIMIT).then_some(5),
     }
 }
 
