@@ -18,8 +18,8 @@ uint64_t simbhoket_measure(const uint8_t *listing, size_t listing_length, size_t
 uint64_t simbhoket_way(const uint8_t *record, size_t record_length, uint32_t address);
 
 /* A machine's image is 74 bytes: R0 to R15 as little-endian words, N Z C V Q a byte each (0 or 1), a count 0 to 4 of waiting
-   conditions, four conditions (0 past the count). An image of another length, with another flag byte, a count above 4 or a byte past
-   the count that is not 0 is number 1, and nothing is changed. */
+   conditions, four conditions (0 past the count). An image of another length, with another flag byte, a count above 4, a condition
+   above 14 or a byte past the count that is not 0 is number 1, and nothing is changed. */
 
 /* One step: the number, 0 to 7. Machine and memory are changed only by 0. */
 uint32_t simbhoket_step(uint8_t *machine, size_t machine_length, const uint8_t *record, size_t record_length,
