@@ -1,0 +1,51 @@
+-- "The program reads a listing of at most 32,768 bytes (more is number 1), base 0x1000, memory 32,768 zero bytes at 0x20000000, R13
+-- 0x20008000, R15 0x1000, all else 0, budget 1,000,000. If the check refuses, it writes one line, as `check 2 at 17`, and no more
+-- (`check 1 at 0` for too many bytes). Any other end is written as below".
+use Prim.Native.Nat.{ℕ}
+use mathlib.Core.List.{List, _++_}
+use lib.Dec.{leb, ltb, eqb}
+use lib.ListN.{length, drop, replicate}
+use Rattle.word.specs.Choice.{if_then_else_}
+use Rattle.memory.specs.declared.Setup.{Setup}
+use Rattle.listing.specs.declared.Checked.{Checked}
+use Rattle.listing.specs.Check.{checked}
+use Rattle.machine.specs.declared.Machine.{Machine}
+use Rattle.machine.specs.Machine.{SP, PC, fresh, written}
+use Rattle.run.specs.declared.Ran.{Ran}
+use Rattle.run.specs.Run.{rehearsal, state, run-of, outcome}
+use Rattle.text.specs.Text.{check-text, end-text}
+
+-- "R13 0x20008000, R15 0x1000, all else 0"
+unfoldable pub start : Machine
+start = written (written fresh SP 0x20008000) PC 0x1000
+
+-- "base 0x1000, memory 32,768 zero bytes at 0x20000000, .. budget 1,000,000"
+unfoldable pub ran : List ℕ → Ran
+ran listing =
+    let setup : Setup = record { base = 0x20000000 } in
+    outcome (run-of 1_000_000 (rehearsal listing 0x1000 setup) (state start (replicate 32768 0))) .answer
+
+unfoldable pub run-text : Ran → List ℕ
+run-text r = end-text (r .number) (r .count) (r .machine .registers) (r .machine .flags)
+
+unfoldable pub text-after : Checked → Ran → List ℕ
+text-after c r = if eqb (c .number) 0 then run-text r else check-text (c .number) (c .place .0)
+
+unfoldable pub text-of : List ℕ → List ℕ
+text-of listing =
+    if ltb 32768 (length listing) then check-text 1 0 else text-after (checked listing 0x1000) (ran listing)
+
+-- lent room with a text at its front; as it was where the text doesn't fit
+unfoldable pub laid : List ℕ → List ℕ → List ℕ
+laid text room = if leb (length text) (length room) then text ++ drop (length text) room else room
+
+-- what a rehearsal answers, the length of its text, and the room after it
+pub record Told : Type 0 where
+  pub length : ℕ
+  pub room : List ℕ
+
+abbrev pub told : ℕ → List ℕ → Told
+told length room = record { length = length; room = room }
+
+unfoldable pub rehearsed : List ℕ → List ℕ → Told
+rehearsed listing room = told (length (text-of listing)) (laid (text-of listing) room)
