@@ -60,7 +60,7 @@ pub fn see(listing: &[u8], point: Point) -> Seen
     if at_end {
         return Seen::Ends;
     }
-    let ReadAt::Found(r, place) = reading::read_next(listing, Place(at)) else {
+    let ReadAt::Found(r, place) = reader::read_next(listing, Place(at)) else {
         return Seen::Stops(2);
     };
     see_record(r, place, point)
@@ -134,7 +134,7 @@ fn hold(listing: &[u8], point: Point) -> AtAddress
     if at_end {
         return AtAddress::End;
     }
-    let ReadAt::Found(r, place) = reading::read_next(listing, Place(at)) else {
+    let ReadAt::Found(r, place) = reader::read_next(listing, Place(at)) else {
         return AtAddress::Stray;
     };
     hold_record(r, place, point)
