@@ -1,4 +1,4 @@
--- Blocks along the layout: at each point the conditions that wait stand in front, so where none is counted nothing waits.
+-- Blocks along the layout: the conditions that wait at a point are a good list; where none is counted nothing waits.
 use Prim.Native.Nat.{ℕ, _≤_}
 use mathlib.Core.Path.{_≡_, refl, sym, ap, _∙_}
 use mathlib.Core.Bool.{Bool, true, false, not, _&&_, _||_}
@@ -9,7 +9,8 @@ use lib.Dec.{eqb, leb}
 use Rattle.word.proofs.Cases.{cases, both-true, either-true, neither}
 use Rattle.waiting.specs.Waiting.{nothing, waiting-count, dropped, block}
 use Rattle.waiting.specs.declared.Waiting.{Waiting}
-use Rattle.waiting.proofs.Laws.{Packed, packed-nothing, packed-dropped, packed-block, packed-none, packed-one}
+use Rattle.waiting.proofs.Good.{Good, good-nothing, good-dropped, good-block}
+use Rattle.waiting.proofs.Laws.{none-waits, one-waits}
 use Rattle.record.specs.declared.IfThenFields.{IfThenFields}
 use Rattle.record.specs.declared.Record.{Record}
 use Rattle.record.specs.declared.Record.the-variants.{IfThen}
@@ -49,22 +50,22 @@ module _ (listing : List ℕ) (p : Point) (r : Record) (q : Point) (e : meets li
   unfolding next
   waits-after = ap (λ (x : Point). x .waiting) (onto listing p r q e .reached)
 
-  still-packed : Packed (p .waiting) → Packed (q .waiting)
-  still-packed h =
+  still-good : Good (p .waiting) → Good (q .waiting)
+  still-good h =
       let o = onto listing p r q e in
       let formed = ahead listing (p .place .0) r (q .place) (o .read) .formed in
       let free = not-refused r (waiting-count (p .waiting)) (o .stands) .0 in
       rw waits-after
-      (after-holds Packed r (p .waiting) (packed-dropped (p .waiting) h)
-      (λ d f. packed-block (d .condition) (d .count) (d .elses) (condition-known d (rw f at formed)) (no-else d (rw f at free))))
+      (after-holds Good r (p .waiting) (good-dropped (p .waiting) h)
+      (λ d f. good-block (d .condition) (d .count) (d .elses) (condition-known d (rw f at formed)) (no-else d (rw f at free))))
 
 module _ (listing : List ℕ) (base : ℕ) (p : Point) (o : On listing base p) where
-  pub on-packed : Packed (p .waiting)
+  pub on-good : Good (p .waiting)
   unfolding start
-  on-packed = on-holds listing base (λ x. Packed (x .waiting)) packed-nothing (λ x r y e h. still-packed listing x r y e h) p o
+  on-good = on-holds listing base (λ x. Good (x .waiting)) good-nothing (λ x r y e h. still-good listing x r y e h) p o
 
   pub nothing-waits : waiting-count (p .waiting) ≡ 0 → p .waiting ≡ nothing
-  nothing-waits = packed-none (p .waiting) on-packed
+  nothing-waits = none-waits (p .waiting) on-good
 
   -- a record that leaves is the last of its block
   pub leaves-last : (r : Record) (q : Point) → meets listing p ≡ Onward r q → leaves (way r) ≡ true → dropped (p .waiting) ≡ nothing
@@ -73,4 +74,4 @@ module _ (listing : List ℕ) (base : ℕ) (p : Point) (o : On listing base p) w
       let n = waiting-count (p .waiting) in
       let spot = not-refused r n (onto listing p r q e .stands) .1 in
       let two = neither (alone r && leb 1 n) (leaves (way r) && leb 2 n) spot .1 in
-      packed-one (p .waiting) on-packed (omega (arith, leb-false 2 n (rw l at two)))
+      one-waits (p .waiting) on-good (omega (arith, leb-false 2 n (rw l at two)))

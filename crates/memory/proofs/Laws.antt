@@ -6,10 +6,11 @@ use mathlib.Core.List.{List}
 use native.Mathlib.Omega.{arith}
 use native.Mathlib.Nat.{add-zero, mul-zero, mul-one, mul-add, add-comm, mul-comm, mul-left-comm}
 use lib.Dec.{leb, ltb}
-use lib.ListN.{length, set, List·getD-eq-default}
+use lib.ListN.{length, set, length-set, List·getD-eq-default}
 use lib.Bits.{bitOr, or-shifted}
 use lib.Pow.{pow-add, shr-shr}
 use borrow.Author.Tests.{le-leb, lt-leb, lt-ltb, le-ltb}
+use Rattle.word.specs.Choice.{if_then_else_}
 use Rattle.word.proofs.Cases.{cases, yes-or-no, le-or-gt, ltb-both}
 use Rattle.little.specs.Little.{byte}
 use Rattle.memory.specs.declared.Setup.{Setup}
@@ -129,3 +130,17 @@ pub stored-more : (j k : ℕ) (setup : Setup) (bytes : List ℕ) (a v : ℕ)
     → stored k setup (stored j setup bytes a v) (further a j) (v / 2 ^ (8 * j)) ≡ stored (j + k) setup bytes a v
 stored-more j k setup bytes a v =
     stored-wrapped k setup (stored j setup bytes a v) (a + j) (v / 2 ^ (8 * j)) ∙ sym (stored-join j k setup bytes a v)
+
+-- ---- a store keeps memory's length
+put-length : (setup : Setup) (bytes : List ℕ) (a x : ℕ) → length (put-byte setup bytes a x) ≡ length bytes
+unfolding put-byte
+put-length setup bytes a x = go (holds setup (length bytes) a) _
+  where
+    go : (t : Bool) (i : ℕ) → length (if t then set bytes i x else bytes) ≡ length bytes
+    go true i = length-set bytes i x
+    go false i = refl
+
+pub stored-length : (count : ℕ) (setup : Setup) (bytes : List ℕ) (a v : ℕ) → length (stored count setup bytes a v) ≡ length bytes
+unfolding stored
+stored-length zero setup bytes a v = refl
+stored-length (suc n) setup bytes a v = put-length setup (stored n setup bytes a v) _ _ ∙ stored-length n setup bytes a v

@@ -1,4 +1,5 @@
 -- A record that was read: its fields are well formed, and the place after it is at least two bytes on and within the listing.
+-- The bytes at its place are that record and no more.
 use Prim.Native.Nat.{ℕ, zero, suc, _+_, _≤_}
 use mathlib.Core.Path.{_≡_, refl, sym, ap, _∙_}
 use mathlib.Core.Bool.{Bool, true, false, false≢true, _&&_, _||_}
@@ -7,7 +8,7 @@ use mathlib.Core.List.{List, [], _∷_}
 use native.Mathlib.Omega.{arith}
 use borrow.Author.Tests.{eqb-true, leb-true}
 use lib.Dec.{eqb, leb}
-use lib.ListN.{length, getD, take, drop, length-take}
+use lib.ListN.{length, getD, drop, length-take}
 use Rattle.word.specs.Choice.{if_then_else_}
 use Rattle.word.proofs.Cases.{cases, both-true, either-true}
 use Rattle.little.specs.Little.{byte}
@@ -19,7 +20,7 @@ use Rattle.reading.specs.declared.Read.{Read}
 use Rattle.reading.specs.declared.Read.the-variants.{Is, Refused}
 use Rattle.reading.specs.declared.ReadAt.{ReadAt}
 use Rattle.reading.specs.declared.ReadAt.the-variants.{Found, Nothing}
-use Rattle.reading.specs.Reading.{named, coded, read-one, found-at, read-at}
+use Rattle.reading.specs.Reading.{named, coded, read-one, found-at, part, read-at}
 
 -- a test that every entry of a table passes
 abbrev every : (ℕ → Bool) → List ℕ → Bool
@@ -69,11 +70,12 @@ read-whole r x = go (eqb (length r) (listing-length (byte r 0)) && named r) refl
     go true h e = record { long = whole-long r h; formed = formed-as (well-formed (record-of r)) (record-of r) x refl e }
     go false h e = let z : _≡_ {A = ℕ} 0 1 = cc in absurd (omega arith)
 
--- what a record that was read at a place says of the place after it
+-- what a record that was read at a place says of the place after it, and of its bytes
 pub record Ahead (listing : List ℕ) (place : ℕ) (r : Record) (next : Place) : Type 0 where
   pub on : place + 2 ≤ next .0
   pub inside : next .0 ≤ length listing
   pub formed : well-formed r ≡ true
+  pub read : read-one (part listing place) ≡ Is r
 
 pub ahead : (listing : List ℕ) (place : ℕ) (r : Record) (next : Place) → read-at listing place ≡ Found r next → Ahead listing place r next
 unfolding read-at found-at
@@ -82,19 +84,16 @@ ahead listing place r next = go (leb (place + listing-length (byte listing place
     size : ℕ
     size = listing-length (byte listing place)
 
-    part : List ℕ
-    part = take size (drop place listing)
-
-    came : (x : Read) → read-one part ≡ x → place + size ≤ length listing → found-at x (place + size) ≡ Found r next → Ahead listing place r next
+    came : (x : Read) → read-one (part listing place) ≡ x → place + size ≤ length listing → found-at x (place + size) ≡ Found r next → Ahead listing place r next
     came (Is x) f h e =
         let n : next .0 ≡ place + size = cc in
         let same : x ≡ r = cc in
         let l = length-take size (drop place listing) in
-        let whole = read-whole part x f in
-        record { on = omega arith; inside = omega arith; formed = rw same at (whole .formed) }
+        let whole = read-whole (part listing place) x f in
+        record { on = omega arith; inside = omega arith; formed = rw same at (whole .formed); read = f ∙ ap Is same }
     came Refused f h e = let z : _≡_ {A = ℕ} 0 1 = cc in absurd (omega arith)
 
     go : (t : Bool) → leb (place + size) (length listing) ≡ t
-        → _≡_ {A = ReadAt} (if t then found-at (read-one part) (place + size) else Nothing) (Found r next) → Ahead listing place r next
-    go true h e = came (read-one part) refl (leb-true (place + size) (length listing) h) e
+        → _≡_ {A = ReadAt} (if t then found-at (read-one (part listing place)) (place + size) else Nothing) (Found r next) → Ahead listing place r next
+    go true h e = came (read-one (part listing place)) refl (leb-true (place + size) (length listing) h) e
     go false h e = let z : _≡_ {A = ℕ} 0 1 = cc in absurd (omega arith)
