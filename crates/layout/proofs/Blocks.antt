@@ -1,14 +1,13 @@
 -- Blocks along the layout: the conditions that wait at a point are a good list; where none is counted nothing waits.
 use Prim.Native.Nat.{ℕ, _≤_}
-use mathlib.Core.Path.{_≡_, refl, sym, ap, _∙_}
-use mathlib.Core.Bool.{Bool, true, false, not, _&&_, _||_}
+use mathlib.Core.Path.{_≡_, ap}
+use mathlib.Core.Bool.{true, not, _&&_, _||_}
 use mathlib.Core.List.{List}
 use native.Mathlib.Omega.{arith}
 use borrow.Author.Tests.{eqb-true, eq-eqb, leb-true, leb-false}
 use lib.Dec.{eqb, leb}
-use Rattle.word.proofs.Cases.{cases, both-true, either-true, neither}
-use Rattle.waiting.specs.Waiting.{nothing, waiting-count, dropped, block}
-use Rattle.waiting.specs.declared.Waiting.{Waiting}
+use Rattle.word.proofs.Cases.{both-true, neither}
+use Rattle.waiting.specs.Waiting.{nothing, waiting-count, dropped}
 use Rattle.waiting.proofs.Good.{Good, good-nothing, good-dropped, good-block}
 use Rattle.waiting.proofs.Laws.{none-waits, one-waits}
 use Rattle.record.specs.declared.IfThenFields.{IfThenFields}
@@ -22,7 +21,7 @@ use Rattle.reading.proofs.Places.{ahead}
 use Rattle.judge.proofs.Laws.{not-refused}
 use Rattle.layout.specs.declared.Point.{Point}
 use Rattle.layout.specs.Layout.{Onward, start, next, meets}
-use Rattle.layout.proofs.Points.{Onto, onto}
+use Rattle.layout.proofs.Points.{onto}
 use Rattle.layout.proofs.Members.{On, on-holds}
 
 -- the fields of an IT record that may stand

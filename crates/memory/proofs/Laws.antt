@@ -1,11 +1,11 @@
 -- Accesses, over their width.
 use Prim.Native.Nat.{ℕ, zero, suc, _+_, _-_, _*_, _/_, _%_, _^_, _≤_, _<_}
 use mathlib.Core.Path.{_≡_, refl, sym, _∙_}
-use mathlib.Core.Bool.{Bool, true, false, _&&_}
+use mathlib.Core.Bool.{Bool, true, false}
 use mathlib.Core.List.{List}
 use native.Mathlib.Omega.{arith}
-use native.Mathlib.Nat.{add-zero, mul-zero, mul-one, mul-add, add-comm, mul-comm, mul-left-comm}
-use lib.Dec.{leb, ltb}
+use native.Mathlib.Nat.{add-zero, mul-zero, mul-add, add-comm, mul-comm, mul-left-comm}
+use lib.Dec.{ltb}
 use lib.ListN.{length, set, length-set, List·getD-eq-default}
 use lib.Bits.{bitOr, or-shifted}
 use lib.Pow.{pow-add, shr-shr}

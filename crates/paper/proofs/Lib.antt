@@ -1,2 +1,7 @@
 pub mod Worked
+pub mod Registers
+pub mod Writes
+pub mod Holds
 pub mod Demands
+pub mod Steers
+pub mod Came

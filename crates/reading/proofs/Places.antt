@@ -1,7 +1,7 @@
 -- A record that was read: its fields are well formed, and the place after it is at least two bytes on and within the listing.
 -- The bytes at its place are that record and no more.
 use Prim.Native.Nat.{ℕ, zero, suc, _+_, _≤_}
-use mathlib.Core.Path.{_≡_, refl, sym, ap, _∙_}
+use mathlib.Core.Path.{_≡_, refl, ap, _∙_}
 use mathlib.Core.Bool.{Bool, true, false, false≢true, _&&_, _||_}
 use mathlib.Core.Logic.{_⊎_, inl, inr}
 use mathlib.Core.List.{List, [], _∷_}
@@ -20,7 +20,7 @@ use Rattle.reading.specs.declared.Read.{Read}
 use Rattle.reading.specs.declared.Read.the-variants.{Is, Refused}
 use Rattle.reading.specs.declared.ReadAt.{ReadAt}
 use Rattle.reading.specs.declared.ReadAt.the-variants.{Found, Nothing}
-use Rattle.reading.specs.Reading.{named, coded, read-one, found-at, part, read-at}
+use Rattle.reading.specs.Reading.{named, read-one, found-at, part, read-at}
 
 -- a test that every entry of a table passes
 abbrev every : (ℕ → Bool) → List ℕ → Bool
