@@ -17,19 +17,22 @@ use Rattle.flags.specs.Flags.{passes}
 use Rattle.waiting.specs.Waiting.{none, waiting-count, dropped}
 use Rattle.waiting.proofs.Laws.{first-none}
 use Rattle.memory.specs.declared.Setup.{Setup}
+use Rattle.memory.specs.Memory.{fits}
 use Rattle.record.specs.declared.IfThenFields.{IfThenFields}
 use Rattle.record.specs.declared.Record.{Record}
 use Rattle.record.specs.declared.Record.the-variants.{IfThen}
 use Rattle.restricted.specs.Restricted.{allowed}
 use Rattle.flow.specs.Flow.{machine-length, way, leaves, alone, misplaced, after, own-condition}
 use Rattle.flow.proofs.Laws.{after-holds}
+use Rattle.reading.specs.declared.Read.the-variants.{Is}
+use Rattle.reading.specs.Reading.{read-one}
 use Rattle.judge.specs.Judge.{refusal}
 use Rattle.judge.proofs.Laws.{not-refused}
 use Rattle.machine.specs.declared.Machine.{Machine}
-use Rattle.machine.specs.Machine.{PC, held, kept, written, with-flags, with-waiting, ruling, condition-passes, advanced, onward, skipped, refused, done, steady}
+use Rattle.machine.specs.Machine.{PC, held, kept, written, with-flags, with-waiting, good, ruling, condition-passes, advanced, onward, skipped, refused, done, steady}
 use Rattle.machine.specs.Access.{Outcome, keeping}
-use Rattle.machine.specs.Step.{obeyed}
-use Rattle.paper.proofs.Registers.{steady-onward, held-written, held-other}
+use Rattle.machine.specs.Step.{obeyed, considered, stepped}
+use Rattle.paper.proofs.Registers.{steady-onward, held-written, held-other, good-steady}
 use Rattle.paper.proofs.Holds.{obeyed-holds}
 use Rattle.paper.proofs.Steers.{Goes, Steers, steered}
 
@@ -141,7 +144,7 @@ module _ (m : Machine) (r : Record) (bytes : List ℕ) (setup : Setup) (firm : s
   unfolding obeyed
   missed failed e = rw failed (went (skipped m r) bytes (led-skipped m r sixteen e) steady-skipped refl)
 
-  pub result : refusal r (waiting-count (m .waiting)) ≡ 0 → Result m r bytes (obeyed m r bytes setup)
+  result : refusal r (waiting-count (m .waiting)) ≡ 0 → Result m r bytes (obeyed m r bytes setup)
   result e = cases (yes-or-no (condition-passes m r)) passed (λ f. missed f (dropped-after m r (fine .1) f))
     where
       fine : (allowed r ≡ true) × (misplaced r (waiting-count (m .waiting)) ≡ false)
@@ -152,3 +155,10 @@ module _ (m : Machine) (r : Record) (bytes : List ℕ) (setup : Setup) (firm : s
           obeyed-holds m bytes setup (Result m r bytes) (Led m r) (Steers m (way r)) (record { stop = stopped; went = went })
           (record { write = λ x k v s l. led-written m r t x k v s l; flag = λ x f l. led-flags m r x f l })
           firm r (steered m r (fine .0)) (λ p. led-onward m r sixteen) (λ f. absurd (true≢false (sym t ∙ f)))
+
+-- the same of a step on the record's bytes
+pub step-result : (m : Machine) (bytes memory : List ℕ) (setup : Setup) (r : Record) → good m ≡ true → fits setup memory ≡ true
+    → length (m .registers) ≡ 16 → read-one bytes ≡ Is r → refusal r (waiting-count (m .waiting)) ≡ 0
+    → Result m r memory (stepped m bytes memory setup)
+unfolding stepped considered
+step-result m bytes memory setup r g f sixteen e n = rw (g, f, e, n) (result m r memory setup (good-steady m g) sixteen n)

@@ -1,8 +1,10 @@
 -- One outcome; and a refused step hands back what it was given.
-use Prim.Native.Nat.{ℕ}
+use Prim.Native.Nat.{ℕ, _≤_}
 use mathlib.Core.Bool.{Bool, true, false, _&&_}
 use mathlib.Core.List.{List}
 use mathlib.Core.Path.{_≡_, refl}
+use native.Mathlib.Omega.{arith}
+use borrow.Author.Tests.{eqb-false}
 use lib.Dec.{eqb}
 use Rattle.word.specs.Choice.{if_then_else_}
 use Rattle.word.proofs.Cases.{both-true}
@@ -15,6 +17,7 @@ use Rattle.reading.specs.declared.Read.{Read}
 use Rattle.reading.specs.declared.Read.the-variants.{Is, Refused}
 use Rattle.reading.specs.Reading.{read-one}
 use Rattle.judge.specs.Judge.{refusal}
+use Rattle.judge.proofs.Laws.{refusal-low}
 use Rattle.machine.specs.declared.Machine.{Machine}
 use Rattle.machine.specs.Machine.{good, skipped, refused, done, steady}
 use Rattle.machine.specs.Access.{Outcome, keeping}
@@ -27,36 +30,46 @@ use Rattle.paper.proofs.Holds.{obeyed-holds}
 pub unique : Unique
 unique m r bytes setup = one-outcome (stepped m r bytes setup)
 
-either : (m : Machine) (bytes : List ℕ) (t : Bool) (a b : Outcome) → (t ≡ true → AsGiven m bytes a) → AsGiven m bytes b
-    → AsGiven m bytes (if t then a else b)
-either m bytes true a b p q = p refl
-either m bytes false a b p q = q
+-- ---- every step: refused with 1 to 7 and as given, or done
+module _
+    (m : Machine) (bytes : List ℕ) (setup : Setup) (P : Outcome → Type 0)
+    (stop : (n : ℕ) → 1 ≤ n → n ≤ 7 → P (keeping (refused n m) bytes))
+    (went : (x : Machine) (after : List ℕ) → P (record { answer = done x; memory = after }))
+  where
+    either : (t : Bool) (a b : Outcome) → (t ≡ true → P a) → (t ≡ false → P b) → P (if t then a else b)
+    either true a b p q = p refl
+    either false a b p q = q refl
 
-of-refused : (m : Machine) (bytes : List ℕ) (n : ℕ) → AsGiven m bytes (keeping (refused n m) bytes)
-unfolding refused
-of-refused m bytes n h = (refl, refl)
+    of-obeyed : (r : Record) → steady m ≡ true → P (obeyed m r bytes setup)
+    of-obeyed r firm =
+        obeyed-holds m bytes setup P (λ x. Unit {0}) (λ k v. Unit {0})
+        (record { stop = λ n h. stop n (omega arith) (h .1); went = λ x after q s l. went x after })
+        (record { write = λ x k v w q. tt; flag = λ x f q. tt })
+        firm r (each m (λ k v. Unit {0}) (λ k v. tt) r) (λ e. tt) (λ e. went (skipped m r) bytes)
 
-of-done : (m next : Machine) (bytes after : List ℕ) → AsGiven m bytes (record { answer = done next; memory = after })
-unfolding done
-of-done m next bytes after h = absurd (h refl)
+    of-considered : (read : Read) → steady m ≡ true → P (considered m read bytes setup)
+    unfolding considered
+    of-considered Refused firm = stop 2 (omega arith) (omega arith)
+    of-considered (Is r) firm =
+        let n = refusal r (waiting-count (m .waiting)) in
+        either (eqb n 0) _ _
+        (λ e. of-obeyed r firm)
+        (λ e. stop n (omega (arith, eqb-false n 0 e)) (omega (arith, refusal-low r (waiting-count (m .waiting)))))
 
-of-obeyed : (m : Machine) (r : Record) (bytes : List ℕ) (setup : Setup) → steady m ≡ true → AsGiven m bytes (obeyed m r bytes setup)
-of-obeyed m r bytes setup firm =
-    obeyed-holds m bytes setup (AsGiven m bytes) (λ x. Unit {0}) (λ k v. Unit {0})
-    (record { stop = λ n h. of-refused m bytes n; went = λ x after q s l. of-done m x bytes after })
-    (record { write = λ x k v w q. tt; flag = λ x f q. tt })
-    firm r (each m (λ k v. Unit {0}) (λ k v. tt) r) (λ e. tt) (λ e. of-done m (skipped m r) bytes bytes)
-
-of-considered : (m : Machine) (read : Read) (bytes : List ℕ) (setup : Setup) → steady m ≡ true → AsGiven m bytes (considered m read bytes setup)
-unfolding considered
-of-considered m Refused bytes setup firm = of-refused m bytes 2
-of-considered m (Is r) bytes setup firm =
-    let n = refusal r (waiting-count (m .waiting)) in
-    either m bytes (eqb n 0) _ _ (λ e. of-obeyed m r bytes setup firm) (of-refused m bytes n)
+    pub stepped-holds : (r : List ℕ) → P (stepped m r bytes setup)
+    unfolding stepped
+    stepped-holds r =
+        either (good m && fits setup bytes) _ _
+        (λ e. of-considered (read-one r) (good-steady m (both-true (good m) (fits setup bytes) e .0)))
+        (λ e. stop 1 (omega arith) (omega arith))
 
 pub refused-as-given : RefusedAsGiven
-unfolding stepped
+unfolding refused done
 refused-as-given m r bytes setup =
-    either m bytes (good m && fits setup bytes) _ _
-    (λ e. of-considered m (read-one r) bytes setup (good-steady m (both-true (good m) (fits setup bytes) e .0)))
-    (of-refused m bytes 1)
+    stepped-holds m bytes setup (AsGiven m bytes) (λ n low high h. (refl, refl)) (λ x after h. absurd (h refl)) r
+
+-- a step gives 0 to 7
+pub step-number : (m : Machine) (r bytes : List ℕ) (setup : Setup) → stepped m r bytes setup .answer .number ≤ 7
+unfolding refused done
+step-number m r bytes setup =
+    stepped-holds m bytes setup (λ o. o .answer .number ≤ 7) (λ n low high. high) (λ x after. omega arith) r

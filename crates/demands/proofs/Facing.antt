@@ -1,0 +1,81 @@
+-- What a machine faces.
+use Prim.Native.Nat.{ℕ}
+use mathlib.Core.Bool.{Bool, true, false}
+use mathlib.Core.List.{List}
+use mathlib.Core.Path.{_≡_, refl, ap, _∙_}
+use native.Mathlib.Omega.{arith}
+use Rattle.word.specs.Choice.{if_then_else_}
+use Rattle.waiting.specs.declared.Waiting.{Waiting}
+use Rattle.waiting.specs.Waiting.{nothing, same}
+use Rattle.waiting.proofs.Laws.{same-is, same-self}
+use Rattle.record.specs.declared.Record.{Record}
+use Rattle.layout.specs.declared.Point.{Point}
+use Rattle.layout.specs.declared.AtAddress.{AtAddress}
+use Rattle.layout.specs.declared.AtAddress.the-variants.{Stands, End, Stray}
+use Rattle.layout.specs.Layout.{Met, Onward, AtEnd, Refusal, meets, at-address, held as held-there}
+use Rattle.layout.proofs.Members.{On, on-found}
+use Rattle.listing.proofs.Accepted.{Accepted, not-stopped, end-waits}
+use Rattle.machine.specs.declared.Machine.{Machine}
+use Rattle.machine.specs.Machine.{PC, held}
+use Rattle.run.specs.Run.{Rehearsal, agreeing, faced}
+use Rattle.demands.specs.Run.{At-record}
+
+-- what agrees with what waits is what is there
+agreed-record : (t : AtAddress) (w : Waiting) (r : Record) (p : Point) → agreeing t w ≡ Stands r p → (t ≡ Stands r p) × (w ≡ p .waiting)
+unfolding agreeing
+agreed-record (Stands x q) w r p given = go (same w (q .waiting)) refl given
+  where
+    go : (t : Bool) → same w (q .waiting) ≡ t → _≡_ {A = AtAddress} (if t then Stands x q else Stray) (Stands r p)
+        → (Stands x q ≡ Stands r p) × (w ≡ p .waiting)
+    go true s e = let f : q ≡ p = cc in (e, same-is w (q .waiting) s ∙ ap (λ (x : Point). x .waiting) f)
+    go false s e = let z : _≡_ {A = ℕ} 0 1 = cc in absurd (omega arith)
+agreed-record End w r p given = go (same w nothing) given
+  where
+    go : (t : Bool) → _≡_ {A = AtAddress} (if t then End else Stray) (Stands r p) → (End ≡ Stands r p) × (w ≡ p .waiting)
+    go true e = let z : _≡_ {A = ℕ} 0 1 = cc in absurd (omega arith)
+    go false e = let z : _≡_ {A = ℕ} 0 1 = cc in absurd (omega arith)
+agreed-record Stray w r p e = let z : _≡_ {A = ℕ} 0 1 = cc in absurd (omega arith)
+
+agreed-end : (t : AtAddress) (w : Waiting) → agreeing t w ≡ End → (t ≡ End) × (w ≡ nothing)
+unfolding agreeing
+agreed-end (Stands x q) w given = go (same w (q .waiting)) given
+  where
+    go : (t : Bool) → _≡_ {A = AtAddress} (if t then Stands x q else Stray) End → (Stands x q ≡ End) × (w ≡ nothing)
+    go true e = let z : _≡_ {A = ℕ} 0 1 = cc in absurd (omega arith)
+    go false e = let z : _≡_ {A = ℕ} 0 1 = cc in absurd (omega arith)
+agreed-end End w given = go (same w nothing) refl given
+  where
+    go : (t : Bool) → same w nothing ≡ t → _≡_ {A = AtAddress} (if t then End else Stray) End → (End ≡ End) × (w ≡ nothing)
+    go true s e = (refl, same-is w nothing s)
+    go false s e = let z : _≡_ {A = ℕ} 0 1 = cc in absurd (omega arith)
+agreed-end Stray w e = let z : _≡_ {A = ℕ} 0 1 = cc in absurd (omega arith)
+
+module _ (h : Rehearsal) (m : Machine) where
+  abbrev there : AtAddress
+  there = at-address (h .listing) (h .base) (held m PC)
+
+  pub faced-record : (r : Record) (p : Point) → faced h m ≡ Stands r p → At-record h m r p
+  unfolding faced
+  faced-record r p e = let a = agreed-record there (m .waiting) r p e in record { stands = a .0; waits = a .1 }
+
+  pub faced-end : faced h m ≡ End → (there ≡ End) × (m .waiting ≡ nothing)
+  unfolding faced
+  faced-end e = agreed-end there (m .waiting) e
+
+-- ---- at a point of an accepted listing, with its conditions waiting, a machine doesn't stray
+not-stray : (listing : List ℕ) (base : ℕ) → Accepted listing base → (p : Point) → On listing base p
+    → (t : Met) → meets listing p ≡ t → agreeing (held-there t p) (p .waiting) ≡ Stray → ⊥
+unfolding agreeing held-there
+not-stray listing base ok p o (Onward r q) e f =
+    let g = rw (same-self (p .waiting)) at f in let z : _≡_ {A = ℕ} 0 1 = cc in omega arith
+not-stray listing base ok p o AtEnd e f =
+    let s : same (p .waiting) nothing ≡ true = rw (end-waits listing base ok p o e) (same-self nothing) in
+    let g = rw s at f in let z : _≡_ {A = ℕ} 0 1 = cc in omega arith
+not-stray listing base ok p o (Refusal number) e f = not-stopped listing base ok p o number e
+
+pub at-point : (h : Rehearsal) → Accepted (h .listing) (h .base) → (p : Point) → On (h .listing) (h .base) p
+    → (m : Machine) → held m PC ≡ p .address .0 → m .waiting ≡ p .waiting → faced h m ≡ Stray → ⊥
+unfolding faced
+at-point h ok p o m a w e =
+    not-stray (h .listing) (h .base) ok p o (meets (h .listing) p) refl
+    (rw (a, w, on-found (h .listing) (h .base) p o) at e)

@@ -1,0 +1,63 @@
+-- Demand 3: "For a listing that the check accepts, memory within limits and a good machine at the first record with nothing waiting: for
+-- any registers, flags, memory bytes and budget the run never ends with 1 to 4; before every step the waiting conditions are those
+-- that the layout gives; it ends with 8 only directly after a step that took its next address from a register or from memory."
+use Prim.Native.Nat.{ℕ, _≤_}
+use mathlib.Core.Bool.{true}
+use mathlib.Core.List.{List, [], _∷_}
+use mathlib.Core.Path.{_≡_}
+use lib.Dec.{eqb}
+use lib.ListN.{length}
+use Rattle.word.specs.Choice.{if_then_else_}
+use Rattle.waiting.specs.Waiting.{nothing}
+use Rattle.record.specs.declared.Record.{Record}
+use Rattle.flow.specs.declared.Way.the-variants.{Taken}
+use Rattle.flow.specs.Flow.{way}
+use Rattle.memory.specs.Memory.{fits}
+use Rattle.layout.specs.declared.Point.{Point}
+use Rattle.listing.specs.Check.{checked}
+use Rattle.machine.specs.declared.Machine.{Machine}
+use Rattle.machine.specs.Machine.{PC, held, good, condition-passes}
+use Rattle.run.specs.Run.{Rehearsal, State, Passage, Course, run-of}
+use Rattle.demands.specs.Run.{At-record, Every}
+
+-- "For a listing that the check accepts, memory within limits and a good machine at the first record with nothing waiting"
+pub record Start (h : Rehearsal) (s : State) : Type 0 where
+  pub accepted : checked (h .listing) (h .base) .number ≡ 0
+  pub memory-fits : fits (h .setup) (s .memory) ≡ true
+  pub machine-good : good (s .machine) ≡ true
+  -- so has every machine of the code: its registers are an array of sixteen
+  pub sixteen : length (s .machine .registers) ≡ 16
+  pub first : held (s .machine) PC ≡ h .base
+  pub free : s .machine .waiting ≡ nothing
+
+-- "A step takes its next address from a register or from memory just when its condition, if any, passes and its record is BX, .."
+pub record Takes (x : Passage) : Type 0 where
+  pub passed : condition-passes (x .before .machine) (x .what) ≡ true
+  pub from : way (x .what) ≡ Taken
+
+-- there is a last step, and P holds of it
+abbrev pub Last : (Passage → Type 0) → List Passage → Type 0
+Last P [] = ⊥
+Last P (x ∷ []) = P x
+Last P (x ∷ y ∷ xs) = Last P (y ∷ xs)
+
+-- where a run ended before a step that was refused, or that the budget left out
+pub record Attempt (h : Rehearsal) (c : Course) : Type 0 where
+  pub what : Record
+  pub point : Point
+  pub at-record : At-record h (c .last .machine) what point
+  pub place : c .place ≡ (if eqb (c .number) 10 then 0 else point .place .0)
+
+pub record Kept (h : Rehearsal) (c : Course) : Type 0 where
+  -- "the run never ends with 1 to 4"
+  pub number : 1 ≤ c .number → c .number ≤ 4 → ⊥
+  -- "before every step the waiting conditions are those that the layout gives"
+  pub steps : Every (λ x. At-record h (x .before .machine) (x .what) (x .point)) (c .steps)
+  -- and before a step that was refused or left out
+  pub attempt : (c .number ≡ 0 → ⊥) → (c .number ≡ 8 → ⊥) → Attempt h c
+  -- "it ends with 8 only directly after a step that took its next address from a register or from memory"
+  pub stray : c .number ≡ 8 → Last Takes (c .steps)
+
+-- "for any registers, flags, memory bytes and budget"
+abbrev pub Demand-3 : Type 0
+Demand-3 = (budget : ℕ) (h : Rehearsal) (s : State) → Start h s → Kept h (run-of budget h s)

@@ -1,0 +1,1 @@
+// Theorems over the definitions of the run; there is no code here.
