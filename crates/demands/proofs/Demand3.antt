@@ -1,197 +1,84 @@
--- Demand 3. The test for a stray address gives R15 and the waiting conditions anew in every round, so only the rest has to be carried
--- along: a good machine of sixteen registers, and memory within its limits.
-use Prim.Native.Nat.{ℕ, zero, suc, _+_, _%_, _^_, _≤_}
-use mathlib.Core.Bool.{true, _&&_}
+-- Demand 3, by the one case principle over the rounds.
+use Prim.Native.Nat.{ℕ, _≤_}
+use mathlib.Core.Bool.{true, true≢false, _&&_}
 use mathlib.Core.List.{List, [], _∷_}
 use mathlib.Core.Logic.{_⊎_, inl, inr}
 use mathlib.Core.Path.{_≡_, refl, sym, ap, _∙_}
 use native.Mathlib.Omega.{arith}
 use borrow.Author.Tests.{eq-eqb, ne-eqb}
-use lib.Dec.{eqb}
-use lib.IntN.{ℤ}
-use lib.ListN.{length}
 use Rattle.word.proofs.Cases.{cases}
-use Rattle.address.specs.Address.{cleared}
-use Rattle.address.proofs.Laws.{cleared-same}
-use Rattle.waiting.specs.Waiting.{waiting-count, dropped}
-use Rattle.waiting.proofs.Good.{is-good}
 use Rattle.record.specs.declared.Record.{Record}
-use Rattle.flow.specs.declared.Way.{Way}
-use Rattle.flow.specs.declared.Way.the-variants.{Next, Direct, Taken}
-use Rattle.flow.specs.Flow.{machine-length, way, target, leaves, after}
-use Rattle.flow.proofs.Laws.{after-holds}
-use Rattle.reading.specs.Reading.{part}
-use Rattle.reading.proofs.Places.{ahead}
-use Rattle.memory.specs.declared.Setup.{Setup}
 use Rattle.memory.specs.Memory.{fits}
-use Rattle.judge.specs.Judge.{refusal}
 use Rattle.layout.specs.declared.Point.{Point}
-use Rattle.layout.specs.declared.AtAddress.the-variants.{Stands, End, Stray}
+use Rattle.layout.specs.declared.AtAddress.the-variants.{Stray}
 use Rattle.layout.specs.Layout.{start}
-use Rattle.layout.proofs.Points.{onto, next-address}
-use Rattle.layout.proofs.Members.{On, Standing, stands-on, start-on, next-on}
-use Rattle.layout.proofs.Blocks.{waits-after, leaves-last, on-good}
-use Rattle.listing.proofs.Accepted.{Accepted, on-low, on-even, branch-lands}
-use Rattle.machine.specs.declared.Machine.{Machine}
-use Rattle.machine.specs.Machine.{PC, held, good}
-use Rattle.paper.proofs.Registers.{good-parts}
-use Rattle.paper.proofs.Steers.{Goes}
-use Rattle.paper.proofs.Came.{following, Arrived, Led, Result, step-result}
+use Rattle.layout.proofs.Members.{start-on}
+use Rattle.listing.specs.declared.Checked.{Checked}
+use Rattle.listing.proofs.Accepted.{Accepted}
+use Rattle.machine.specs.Machine.{good}
 use Rattle.run.specs.Run.{Rehearsal, State, Passage, Course, faced, over, led-by, rounds, run-of}
-use Rattle.demands.specs.Run.{At-record}
-use Rattle.demands.specs.Demand3.{Start, Takes, Last, Attempt, Kept, Demand-3}
-use Rattle.demands.proofs.Rounds.{tried, next-state, passage, By-rounds, rounds-hold}
-use Rattle.demands.proofs.Facing.{faced-record, at-point}
+use Rattle.demands.specs.Run.{Ended, Unfit, Unaccepted, Reached, Strayed, Spent, Stopped}
+use Rattle.demands.specs.Demand3.{Start, Takes, Last, Attempt, Demand-3}
+use Rattle.demands.proofs.Rounds.{next-state, passage, By-rounds, rounds-hold}
+use Rattle.demands.proofs.Facing.{at-point}
 use Rattle.demands.proofs.Run.{begun-run, runs}
+use Rattle.demands.proofs.Stepping.{Fit, result, next-fit, strays}
 
-record Fit (h : Rehearsal) (s : State) : Type 0 where
-  good : good (s .machine) ≡ true
-  sixteen : length (s .machine .registers) ≡ 16
-  fits : fits (h .setup) (s .memory) ≡ true
+-- ---- a run that the check and the tests let begin stops before a step, unless it is over
+attempted : (budget : ℕ) (h : Rehearsal) (s : State) (c : Course) → Start h s → Ended budget h s c
+    → (c .number ≡ 0 → ⊥) → (c .number ≡ 8 → ⊥) → Attempt h c
+attempted budget h s c b (Unfit f e) z t = absurd (true≢false (sym (rw (b .machine-good, b .memory-fits)) ∙ f))
+attempted budget h s c b (Unaccepted k f n e) z t = absurd (n (ap (λ (k : Checked). k .number) (sym f) ∙ b .accepted))
+attempted budget h s c b (Reached a w n e) z t = absurd (z n)
+attempted budget h s c b (Strayed a n e) z t = absurd (t n)
+attempted budget h s c b (Spent r p a l n e) z t = record { what = r; point = p; at-record = a; place = rw n e }
+attempted budget h s c b (Stopped r p a l low high e) z t =
+    record { what = r; point = p; at-record = a; place = rw (ne-eqb (c .number) 10 (λ f. omega arith)) e }
 
-fits-kept : (setup : Setup) (a b : List ℕ) → length b ≡ length a → fits setup a ≡ true → fits setup b ≡ true
-unfolding fits
-fits-kept setup a b e f = rw e f
+-- ---- never 1 to 4, and 8 after a step that takes its next address, or before any
+record Claim (h : Rehearsal) (s : State) (c : Course) : Type 0 where
+  number : 1 ≤ c .number → c .number ≤ 4 → ⊥
+  stray : c .number ≡ 8 → ((c .steps ≡ []) × (faced h (s .machine) ≡ Stray)) ⊎ Last Takes (c .steps)
 
-direct-drops : (r : Record) (offset : ℤ) → way r ≡ Direct offset → (m : Machine) → after r (m .waiting) ≡ dropped (m .waiting)
-unfolding way
-direct-drops r offset e m =
-    after-holds (λ x. x ≡ dropped (m .waiting)) r (m .waiting) refl
-    (λ d f. let g : Next ≡ Direct offset = rw f at e in let z : _≡_ {A = ℕ} 0 1 = cc in absurd (omega arith))
+last-more : (x : Passage) (xs : List Passage) → Last Takes xs → Last Takes (x ∷ xs)
+last-more x [] l = absurd l
+last-more x (y ∷ xs) l = l
 
 module _ (h : Rehearsal) (ok : Accepted (h .listing) (h .base)) where
-  -- ---- the step of a record that is faced
-  module _ (s : State) (fit : Fit h s) (r : Record) (p : Point) (e : faced h (s .machine) ≡ Stands r p) where
-    abbrev m : Machine
-    m = s .machine
-
-    here : At-record h m r p
-    here = faced-record h m r p e
-
-    stands : Standing (h .listing) (h .base) (held m PC) r p
-    stands = stands-on (h .listing) (h .base) (held m PC) r p (here .stands)
-
-    abbrev q : Point
-    q = stands .next
-
-    result : Result m r (s .memory) (tried h s p)
-    result =
-        let o = onto (h .listing) p r q (stands .goes) in
-        step-result m (part (h .listing) (p .place .0)) (s .memory) (h .setup) r (fit .good) (fit .fits) (fit .sixteen)
-        (ahead (h .listing) (p .place .0) r (q .place) (o .read) .read) (rw (here .waits) (o .stands))
-
-    module _ (done : tried h s p .answer .number ≡ 0) where
-      abbrev x : Machine
-      x = tried h s p .answer .machine
-
-      led : Led m r x
-      led = result .led done
-
-      on : On (h .listing) (h .base) q
-      on = next-on (h .listing) (h .base) p (stands .on) r q (stands .goes)
-
-      waits-next : x .waiting ≡ q .waiting
-      waits-next = led .waits ∙ (ap (after r) (here .waits) ∙ sym (waits-after (h .listing) p r q (stands .goes)))
-
-      next-fit : Fit h (next-state h s p)
-      next-fit = record {
-        good = good-parts x (led .even) (result .firm) (rw waits-next (is-good (q .waiting) (on-good (h .listing) (h .base) q on)));
-        sixteen = led .sixteen;
-        fits = fits-kept (h .setup) (s .memory) (tried h s p .memory) (result .size) (fit .fits);
-      }
-
-      -- a machine that is led on to the next record is at the point after this one
-      not-onward : held x PC ≡ following m r → faced h x ≡ Stray → ⊥
-      not-onward a =
-          let low = on-low (h .listing) (h .base) ok q on in
-          let there : (held m PC + machine-length r) % 2 ^ 32 ≡ q .address .0 =
-          omega (arith, stands .at, next-address (h .listing) p r q (stands .goes), low) in
-          at-point h ok q on x
-          (a ∙ (ap (cleared 0) there ∙ cleared-same (q .address .0) (on-even (h .listing) (h .base) ok q on)))
-          waits-next
-
-      -- and one that branches directly is at a landing place, where nothing waits
-      not-direct : (a : Arrived m r (held x PC)) (offset : ℤ) → way r ≡ Direct offset → Goes m (Direct offset) (a .value) → faced h x ≡ Stray → ⊥
-      unfolding leaves
-      not-direct a offset f g =
-          let land = branch-lands (h .listing) (h .base) ok p (stands .on) r q (stands .goes) offset f in
-          let to = land .point .address .0 in
-          let there = g ∙ (ap (λ (n : ℕ). target n (Direct offset)) (sym (stands .at)) ∙ sym (land .at)) in
-          let last = leaves-last (h .listing) (h .base) p (stands .on) r q (stands .goes) (rw f) in
-          at-point h ok (land .point) (land .on) x
-          (a .at ∙ (ap (cleared 0) there ∙ cleared-same to (on-even (h .listing) (h .base) ok (land .point) (land .on))))
-          (led .waits ∙ (direct-drops r offset f m ∙ (ap dropped (here .waits) ∙ (last ∙ sym (land .waits)))))
-
-      strays : faced h x ≡ Stray → Takes (passage h s r p)
-      strays f = cases (led .at) (λ a. absurd (not-onward a f)) (λ a. arrived a (way r) refl (a .goes))
-        where
-          arrived : (a : Arrived m r (held x PC)) (w : Way) → way r ≡ w → Goes m w (a .value) → Takes (passage h s r p)
-          arrived a Next w g = absurd g
-          arrived a (Direct offset) w g = absurd (not-direct a offset w g f)
-          arrived a Taken w g = record { passed = a .passed; from = w }
-
-  -- ---- the rounds
-  record Claim (s : State) (c : Course) : Type 0 where
-    number : 1 ≤ c .number → c .number ≤ 4 → ⊥
-    attempt : (c .number ≡ 0 → ⊥) → (c .number ≡ 8 → ⊥) → Attempt h c
-    stray : c .number ≡ 8 → ((c .steps ≡ []) × (faced h (s .machine) ≡ Stray)) ⊎ Last Takes (c .steps)
-
-  last-more : (y : Passage) (xs : List Passage) → Last Takes xs → Last Takes (y ∷ xs)
-  last-more y [] l = absurd l
-  last-more y (z ∷ xs) l = l
-
-  led-claim : (s : State) (r : Record) (p : Point) (n : State) (c : Course) → (faced h (n .machine) ≡ Stray → Takes (passage h s r p))
-      → Claim n c → Claim s (led-by (passage h s r p) c)
-  led-claim s r p n c takes k = record {
+  led-claim : (s n : State) (x : Passage) (c : Course) → (faced h (n .machine) ≡ Stray → Takes x) → Claim h n c → Claim h s (led-by x c)
+  led-claim s n x c takes k = record {
     number = k .number;
-    attempt = λ e f.
-        let a = k .attempt e f in record { what = a .what; point = a .point; at-record = a .at-record; place = a .place };
-    stray = λ e.
-        inr
-        (cases (k .stray e) (λ t. rw (t .0) (takes (t .1))) (λ l. last-more (passage h s r p) (c .steps) l));
+    stray = λ e. inr (cases (k .stray e) (λ t. rw (t .0) (takes (t .1))) (λ l. last-more x (c .steps) l));
   }
 
-  by-claim : By-rounds h (λ left s c. Fit h s → Claim s c)
+  stopped-claim : (s : State) (r : Record) (p : Point) → (n : ℕ) → (5 ≤ n) × (n ≤ 7) → Claim h s (over n (p .place .0) s)
+  stopped-claim s r p n b = record { number = λ f g. omega (arith, b, g); stray = λ f. absurd (omega (arith, b, f)) }
+
+  by-claim : By-rounds h (λ left s c. Fit h s → Claim h s c)
   by-claim = record {
-    reached = λ left s e fit. record { number = λ a b. omega arith; attempt = λ f g. absurd (f refl); stray = λ f. absurd (omega arith) };
-    strayed = λ left s e fit. record { number = λ a b. omega arith; attempt = λ f g. absurd (g refl); stray = λ f. inl (refl, e) };
-    spent = λ s r p e fit. record {
-      number = λ a b. omega arith;
-      attempt = λ f g. record { what = r; point = p; at-record = faced-record h (s .machine) r p e; place = refl };
-      stray = λ f. absurd (omega arith);
-    };
-    stopped = λ left s r p e n fit. refused s r p e (cases (result s fit r p e .number) (λ z. absurd (n z)) (λ b. b));
+    reached = λ left s e fit. record { number = λ a b. omega arith; stray = λ f. absurd (omega arith) };
+    strayed = λ left s e fit. record { number = λ a b. omega arith; stray = λ f. inl (refl, e) };
+    spent = λ s r p e fit. record { number = λ a b. omega arith; stray = λ f. absurd (omega arith) };
+    stopped = λ left s r p e n fit.
+        stopped-claim s r p _ (cases (result h ok s fit r p e .number) (λ z. absurd (n z)) (λ b. b));
     stepped = λ left s r p e n rest fit.
-        led-claim s r p (next-state h s p) (rounds left h (next-state h s p)) (strays s fit r p e n) (rest (next-fit s fit r p e n));
+        let next = next-state h s p in
+        led-claim s next (passage h s r p) (rounds left h next) (strays h ok s fit r p e n) (rest (next-fit h ok s fit r p e n));
   }
-    where
-      refused : (s : State) (r : Record) (p : Point) → faced h (s .machine) ≡ Stands r p
-          → let n = tried h s p .answer .number in (5 ≤ n) × (n ≤ 7) → Claim s (over n (p .place .0) s)
-      refused s r p e b =
-          let n = tried h s p .answer .number in
-          record {
-            number = λ f g. omega (arith, b, f, g);
-            attempt = λ f g. record {
-              what = r;
-              point = p;
-              at-record = faced-record h (s .machine) r p e;
-              place = rw (ne-eqb n 10 (λ z. omega (arith, b, z)));
-            };
-            stray = λ f. absurd (omega (arith, b, f));
-          }
 
 pub demand-3 : Demand-3
 unfolding start
 demand-3 budget h s b =
     let ok : Accepted (h .listing) (h .base) = b .accepted in
-    let k = rounds-hold h _ (by-claim h ok) budget s (record { good = b .machine-good; sixteen = b .sixteen; fits = b .memory-fits }) in
     let fit : (good (s .machine) && fits (h .setup) (s .memory)) ≡ true = rw (b .machine-good, b .memory-fits) in
     let is = begun-run h s fit (eq-eqb _ 0 ok) budget in
+    let k = rounds-hold h _ (by-claim h ok) budget s (record { good = b .machine-good; sixteen = b .sixteen; fits = b .memory-fits }) in
     let first : faced h (s .machine) ≡ Stray → ⊥ =
     at-point h ok (start (h .base)) (start-on (h .listing) (h .base)) (s .machine) (b .first) (b .free) in
+    let run = runs budget h s in
     record {
       number = rw is (k .number);
-      steps = runs budget h s .at-records;
-      attempt = rw is (k .attempt);
+      steps = run .at-records;
+      attempt = attempted budget h s (run-of budget h s) b (run .ended);
       stray = rw is (λ e. cases (k .stray e) (λ t. absurd (first (t .1))) (λ l. l));
     }

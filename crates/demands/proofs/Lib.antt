@@ -1,4 +1,6 @@
 pub mod Rounds
 pub mod Facing
 pub mod Run
+pub mod Stepping
 pub mod Demand3
+pub mod Worked

@@ -1,25 +1,22 @@
 -- Every run: why it ended, and that its count is that of its steps.
 use Prim.Native.Nat.{ℕ, zero, suc, _+_, _≤_}
 use mathlib.Core.Bool.{Bool, true, false, _&&_}
-use mathlib.Core.List.{List, _∷_}
+use mathlib.Core.List.{_∷_}
 use mathlib.Core.Logic.{_⊎_, inl, inr}
-use mathlib.Core.Path.{_≡_, refl, sym, ap, _∙_}
+use mathlib.Core.Path.{_≡_, refl, sym, ap}
 use native.Mathlib.Omega.{arith}
 use borrow.Author.Tests.{eqb-false}
 use lib.Dec.{eqb}
 use lib.ListN.{length}
-use Rattle.word.specs.Choice.{if_then_else_}
 use Rattle.word.proofs.Cases.{cases, yes-or-no}
 use Rattle.word.proofs.Sole.{one-outcome}
 use Rattle.reading.specs.Reading.{part}
 use Rattle.memory.specs.Memory.{fits}
-use Rattle.layout.specs.declared.AtAddress.{AtAddress}
-use Rattle.layout.specs.declared.AtAddress.the-variants.{Stands, End, Stray}
 use Rattle.listing.specs.declared.Checked.{Checked}
 use Rattle.listing.specs.Check.{checked}
 use Rattle.machine.specs.Machine.{good}
 use Rattle.paper.proofs.Demands.{step-number}
-use Rattle.run.specs.Run.{Rehearsal, State, Passage, Course, faced, over, led-by, used-up, rounds, unless-refused, run-of, outcome}
+use Rattle.run.specs.Run.{Rehearsal, State, Passage, Course, faced, over, used-up, rounds, run-of, outcome}
 use Rattle.demands.specs.Run.{At-record, Every, Ended, Unfit, Unaccepted, Reached, Strayed, Spent, Stopped, Again, Every-run, Runs, One-ending}
 use Rattle.demands.proofs.Facing.{faced-record, faced-end}
 use Rattle.demands.proofs.Rounds.{passage, By-rounds, rounds-hold, rounds-on, rounds-none}

@@ -15,7 +15,6 @@ use Rattle.flow.specs.Flow.{way}
 use Rattle.memory.specs.Memory.{fits}
 use Rattle.layout.specs.declared.Point.{Point}
 use Rattle.listing.specs.Check.{checked}
-use Rattle.machine.specs.declared.Machine.{Machine}
 use Rattle.machine.specs.Machine.{PC, held, good, condition-passes}
 use Rattle.run.specs.Run.{Rehearsal, State, Passage, Course, run-of}
 use Rattle.demands.specs.Run.{At-record, Every}

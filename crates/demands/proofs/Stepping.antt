@@ -1,0 +1,126 @@
+-- The step of a record that is faced in an accepted listing: it is refused with 5, 6 or 7, or the machine is fit again; and it strays
+-- only where the record takes its next address from a register or from memory.
+use Prim.Native.Nat.{ℕ, _+_, _%_, _^_}
+use mathlib.Core.Bool.{true}
+use mathlib.Core.List.{List}
+use mathlib.Core.Path.{_≡_, refl, sym, ap, _∙_}
+use native.Mathlib.Omega.{arith}
+use lib.IntN.{ℤ}
+use lib.ListN.{length}
+use Rattle.word.proofs.Cases.{cases}
+use Rattle.address.specs.Address.{cleared}
+use Rattle.address.proofs.Laws.{cleared-same}
+use Rattle.waiting.specs.Waiting.{dropped}
+use Rattle.waiting.proofs.Good.{is-good}
+use Rattle.record.specs.declared.Record.{Record}
+use Rattle.flow.specs.declared.Way.{Way}
+use Rattle.flow.specs.declared.Way.the-variants.{Next, Direct, Taken}
+use Rattle.flow.specs.Flow.{machine-length, way, target, leaves, after}
+use Rattle.flow.proofs.Laws.{after-holds}
+use Rattle.reading.specs.Reading.{part}
+use Rattle.reading.proofs.Places.{ahead}
+use Rattle.memory.specs.declared.Setup.{Setup}
+use Rattle.memory.specs.Memory.{fits}
+use Rattle.layout.specs.declared.Point.{Point}
+use Rattle.layout.specs.declared.AtAddress.the-variants.{Stands, Stray}
+use Rattle.layout.proofs.Points.{onto, next-address}
+use Rattle.layout.proofs.Members.{On, Standing, stands-on, next-on}
+use Rattle.layout.proofs.Blocks.{waits-after, leaves-last, on-good}
+use Rattle.listing.proofs.Accepted.{Accepted, on-low, on-even, branch-lands}
+use Rattle.machine.specs.declared.Machine.{Machine}
+use Rattle.machine.specs.Machine.{PC, held, good}
+use Rattle.paper.proofs.Registers.{good-parts}
+use Rattle.paper.proofs.Steers.{Goes}
+use Rattle.paper.proofs.Came.{following, Arrived, Led, Result, step-result}
+use Rattle.run.specs.Run.{Rehearsal, State, faced}
+use Rattle.demands.specs.Run.{At-record}
+use Rattle.demands.specs.Demand3.{Takes}
+use Rattle.demands.proofs.Rounds.{tried, next-state, passage}
+use Rattle.demands.proofs.Facing.{faced-record, at-point}
+
+-- what is carried along; the test for a stray address gives R15 and the waiting conditions anew in every round
+pub record Fit (h : Rehearsal) (s : State) : Type 0 where
+  pub good : good (s .machine) ≡ true
+  pub sixteen : length (s .machine .registers) ≡ 16
+  pub fits : fits (h .setup) (s .memory) ≡ true
+
+fits-kept : (setup : Setup) (a b : List ℕ) → length b ≡ length a → fits setup a ≡ true → fits setup b ≡ true
+unfolding fits
+fits-kept setup a b e f = rw e f
+
+direct-drops : (r : Record) (offset : ℤ) → way r ≡ Direct offset → (m : Machine) → after r (m .waiting) ≡ dropped (m .waiting)
+unfolding way
+direct-drops r offset e m =
+    after-holds (λ x. x ≡ dropped (m .waiting)) r (m .waiting) refl
+    (λ d f. let g : Next ≡ Direct offset = rw f at e in let z : _≡_ {A = ℕ} 0 1 = cc in absurd (omega arith))
+
+module _ (h : Rehearsal) (ok : Accepted (h .listing) (h .base)) where
+  -- ---- the step of a record that is faced
+  module _ (s : State) (fit : Fit h s) (r : Record) (p : Point) (e : faced h (s .machine) ≡ Stands r p) where
+    abbrev m : Machine
+    m = s .machine
+
+    here : At-record h m r p
+    here = faced-record h m r p e
+
+    stands : Standing (h .listing) (h .base) (held m PC) r p
+    stands = stands-on (h .listing) (h .base) (held m PC) r p (here .stands)
+
+    abbrev q : Point
+    q = stands .next
+
+    pub result : Result m r (s .memory) (tried h s p)
+    result =
+        let o = onto (h .listing) p r q (stands .goes) in
+        step-result m (part (h .listing) (p .place .0)) (s .memory) (h .setup) r (fit .good) (fit .fits) (fit .sixteen)
+        (ahead (h .listing) (p .place .0) r (q .place) (o .read) .read) (rw (here .waits) (o .stands))
+
+    module _ (done : tried h s p .answer .number ≡ 0) where
+      abbrev x : Machine
+      x = tried h s p .answer .machine
+
+      led : Led m r x
+      led = result .led done
+
+      on : On (h .listing) (h .base) q
+      on = next-on (h .listing) (h .base) p (stands .on) r q (stands .goes)
+
+      waits-next : x .waiting ≡ q .waiting
+      waits-next = led .waits ∙ (ap (after r) (here .waits) ∙ sym (waits-after (h .listing) p r q (stands .goes)))
+
+      pub next-fit : Fit h (next-state h s p)
+      next-fit = record {
+        good = good-parts x (led .even) (result .firm) (rw waits-next (is-good (q .waiting) (on-good (h .listing) (h .base) q on)));
+        sixteen = led .sixteen;
+        fits = fits-kept (h .setup) (s .memory) (tried h s p .memory) (result .size) (fit .fits);
+      }
+
+      -- a machine that is led on to the next record is at the point after this one
+      not-onward : held x PC ≡ following m r → faced h x ≡ Stray → ⊥
+      not-onward a =
+          let low = on-low (h .listing) (h .base) ok q on in
+          let there : (held m PC + machine-length r) % 2 ^ 32 ≡ q .address .0 =
+          omega (arith, stands .at, next-address (h .listing) p r q (stands .goes), low) in
+          at-point h ok q on x
+          (a ∙ (ap (cleared 0) there ∙ cleared-same (q .address .0) (on-even (h .listing) (h .base) ok q on)))
+          waits-next
+
+      -- and one that branches directly is at a landing place, where nothing waits
+      not-direct : (a : Arrived m r (held x PC)) (offset : ℤ) → way r ≡ Direct offset → Goes m (Direct offset) (a .value) → faced h x ≡ Stray → ⊥
+      unfolding leaves
+      not-direct a offset f g =
+          let land = branch-lands (h .listing) (h .base) ok p (stands .on) r q (stands .goes) offset f in
+          let to = land .point .address .0 in
+          let there = g ∙ (ap (λ (n : ℕ). target n (Direct offset)) (sym (stands .at)) ∙ sym (land .at)) in
+          let last = leaves-last (h .listing) (h .base) p (stands .on) r q (stands .goes) (rw f) in
+          at-point h ok (land .point) (land .on) x
+          (a .at ∙ (ap (cleared 0) there ∙ cleared-same to (on-even (h .listing) (h .base) ok (land .point) (land .on))))
+          (led .waits ∙ (direct-drops r offset f m ∙ (ap dropped (here .waits) ∙ (last ∙ sym (land .waits)))))
+
+      pub strays : faced h x ≡ Stray → Takes (passage h s r p)
+      strays f = cases (led .at) (λ a. absurd (not-onward a f)) (λ a. arrived a (way r) refl (a .goes))
+        where
+          arrived : (a : Arrived m r (held x PC)) (w : Way) → way r ≡ w → Goes m w (a .value) → Takes (passage h s r p)
+          arrived a Next w g = absurd g
+          arrived a (Direct offset) w g = absurd (not-direct a offset w g f)
+          arrived a Taken w g = record { passed = a .passed; from = w }
