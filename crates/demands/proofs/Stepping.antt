@@ -2,7 +2,6 @@
 -- only where the record takes its next address from a register or from memory.
 use Prim.Native.Nat.{ℕ, _+_, _%_, _^_}
 use mathlib.Core.Bool.{true}
-use mathlib.Core.List.{List}
 use mathlib.Core.Path.{_≡_, refl, sym, ap, _∙_}
 use native.Mathlib.Omega.{arith}
 use lib.IntN.{ℤ}
@@ -16,11 +15,11 @@ use Rattle.record.specs.declared.Record.{Record}
 use Rattle.flow.specs.declared.Way.{Way}
 use Rattle.flow.specs.declared.Way.the-variants.{Next, Direct, Taken}
 use Rattle.flow.specs.Flow.{machine-length, way, target, leaves, after}
-use Rattle.flow.proofs.Laws.{after-holds}
+use Rattle.flow.proofs.Laws.{direct-drops}
 use Rattle.reading.specs.Reading.{part}
 use Rattle.reading.proofs.Places.{ahead}
-use Rattle.memory.specs.declared.Setup.{Setup}
 use Rattle.memory.specs.Memory.{fits}
+use Rattle.memory.proofs.Laws.{fits-as-long}
 use Rattle.layout.specs.declared.Point.{Point}
 use Rattle.layout.specs.declared.AtAddress.the-variants.{Stands, Stray}
 use Rattle.layout.proofs.Points.{onto, next-address}
@@ -43,16 +42,6 @@ pub record Fit (h : Rehearsal) (s : State) : Type 0 where
   pub good : good (s .machine) ≡ true
   pub sixteen : length (s .machine .registers) ≡ 16
   pub fits : fits (h .setup) (s .memory) ≡ true
-
-fits-kept : (setup : Setup) (a b : List ℕ) → length b ≡ length a → fits setup a ≡ true → fits setup b ≡ true
-unfolding fits
-fits-kept setup a b e f = rw e f
-
-direct-drops : (r : Record) (offset : ℤ) → way r ≡ Direct offset → (m : Machine) → after r (m .waiting) ≡ dropped (m .waiting)
-unfolding way
-direct-drops r offset e m =
-    after-holds (λ x. x ≡ dropped (m .waiting)) r (m .waiting) refl
-    (λ d f. let g : Next ≡ Direct offset = rw f at e in let z : _≡_ {A = ℕ} 0 1 = cc in absurd (omega arith))
 
 module _ (h : Rehearsal) (ok : Accepted (h .listing) (h .base)) where
   -- ---- the step of a record that is faced
@@ -92,7 +81,7 @@ module _ (h : Rehearsal) (ok : Accepted (h .listing) (h .base)) where
       next-fit = record {
         good = good-parts x (led .even) (result .firm) (rw waits-next (is-good (q .waiting) (on-good (h .listing) (h .base) q on)));
         sixteen = led .sixteen;
-        fits = fits-kept (h .setup) (s .memory) (tried h s p .memory) (result .size) (fit .fits);
+        fits = fits-as-long (h .setup) (s .memory) (tried h s p .memory) (result .size) (fit .fits);
       }
 
       -- a machine that is led on to the next record is at the point after this one
@@ -115,7 +104,7 @@ module _ (h : Rehearsal) (ok : Accepted (h .listing) (h .base)) where
           let last = leaves-last (h .listing) (h .base) p (stands .on) r q (stands .goes) (rw f) in
           at-point h ok (land .point) (land .on) x
           (a .at ∙ (ap (cleared 0) there ∙ cleared-same to (on-even (h .listing) (h .base) ok (land .point) (land .on))))
-          (led .waits ∙ (direct-drops r offset f m ∙ (ap dropped (here .waits) ∙ (last ∙ sym (land .waits)))))
+          (led .waits ∙ (direct-drops r offset f (m .waiting) ∙ (ap dropped (here .waits) ∙ (last ∙ sym (land .waits)))))
 
       pub strays : faced h x ≡ Stray → Takes (passage h s r p)
       strays f = cases (led .at) (λ a. absurd (not-onward a f)) (λ a. arrived a (way r) refl (a .goes))

@@ -29,4 +29,4 @@ worked = (
 )
   where
     any : (r0 : ℕ) → Start shown (from r0)
-    any r0 = record { accepted = refl; memory-fits = refl; machine-good = refl; sixteen = refl; first = refl; free = refl }
+    any r0 = record { accepted = refl; memory-fits = refl; machine-good = refl; sixteen = refl; at-first = refl; nothing-waits = refl }

@@ -24,10 +24,10 @@ pub record Start (h : Rehearsal) (s : State) : Type 0 where
   pub accepted : checked (h .listing) (h .base) .number ≡ 0
   pub memory-fits : fits (h .setup) (s .memory) ≡ true
   pub machine-good : good (s .machine) ≡ true
-  -- so has every machine of the code: its registers are an array of sixteen
+  -- "Sixteen 32-bit registers": so has every machine of the code, whose registers are an array of sixteen
   pub sixteen : length (s .machine .registers) ≡ 16
-  pub first : held (s .machine) PC ≡ h .base
-  pub free : s .machine .waiting ≡ nothing
+  pub at-first : held (s .machine) PC ≡ h .base
+  pub nothing-waits : s .machine .waiting ≡ nothing
 
 -- "A step takes its next address from a register or from memory just when its condition, if any, passes and its record is BX, .."
 pub record Takes (x : Passage) : Type 0 where
@@ -40,23 +40,24 @@ Last P [] = ⊥
 Last P (x ∷ []) = P x
 Last P (x ∷ y ∷ xs) = Last P (y ∷ xs)
 
--- where a run ended before a step that was refused, or that the budget left out
+-- the step that a run ended before: it was refused, or the budget left it out; "the record's [place] for a refused step, else 0"
 pub record Attempt (h : Rehearsal) (c : Course) : Type 0 where
   pub what : Record
   pub point : Point
   pub at-record : At-record h (c .last .machine) what point
   pub place : c .place ≡ (if eqb (c .number) 10 then 0 else point .place .0)
 
-pub record Kept (h : Rehearsal) (c : Course) : Type 0 where
+-- what is demanded of a run
+pub record Sound (h : Rehearsal) (c : Course) : Type 0 where
   -- "the run never ends with 1 to 4"
   pub number : 1 ≤ c .number → c .number ≤ 4 → ⊥
   -- "before every step the waiting conditions are those that the layout gives"
   pub steps : Every (λ x. At-record h (x .before .machine) (x .what) (x .point)) (c .steps)
-  -- and before a step that was refused or left out
+  -- and so they are before the step that was refused or left out
   pub attempt : (c .number ≡ 0 → ⊥) → (c .number ≡ 8 → ⊥) → Attempt h c
   -- "it ends with 8 only directly after a step that took its next address from a register or from memory"
   pub stray : c .number ≡ 8 → Last Takes (c .steps)
 
 -- "for any registers, flags, memory bytes and budget"
 abbrev pub Demand-3 : Type 0
-Demand-3 = (budget : ℕ) (h : Rehearsal) (s : State) → Start h s → Kept h (run-of budget h s)
+Demand-3 = (budget : ℕ) (h : Rehearsal) (s : State) → Start h s → Sound h (run-of budget h s)

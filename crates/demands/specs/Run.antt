@@ -50,16 +50,17 @@ pub data Ended (budget : ℕ) (h : Rehearsal) (s : State) (c : Course) : Type 0 
       → stepped (c .last .machine) (part (h .listing) (p .place .0)) (c .last .memory) (h .setup) .answer .number ≡ c .number
       → 1 ≤ c .number → c .number ≤ 7 → c .place ≡ p .place .0 → Ended budget h s c
 
--- a run c, and one whose budget is the count of c: the same steps, to the same machine and memory. Where a step of c was refused
--- the other has its steps used up.
+-- a run c, and one whose budget is the count of c: the same steps, to the same machine and memory; where a step of c was refused, the
+-- other has its steps used up instead
 pub record Again (c again : Course) : Type 0 where
   pub steps : again .steps ≡ c .steps
   pub last : again .last ≡ c .last
   pub number : (again .number ≡ c .number) ⊎ (again .number ≡ 10)
 
+-- what holds of the run c with a budget from a state s on
 pub record Every-run (budget : ℕ) (h : Rehearsal) (s : State) (c : Course) : Type 0 where
   pub ended : Ended budget h s c
-  -- also a run that strays later steps only at records, with the layout's conditions
+  -- every step is that of a record of the layout, with the layout's conditions waiting
   pub at-records : Every (λ x. At-record h (x .before .machine) (x .what) (x .point)) (c .steps)
   -- "The run stops with the count equal to the rule's own, never past its budget."
   pub within : length (c .steps) ≤ budget

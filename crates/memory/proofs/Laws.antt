@@ -14,7 +14,7 @@ use Rattle.word.specs.Choice.{if_then_else_}
 use Rattle.word.proofs.Cases.{cases, yes-or-no, le-or-gt, ltb-both}
 use Rattle.little.specs.Little.{byte}
 use Rattle.memory.specs.declared.Setup.{Setup}
-use Rattle.memory.specs.Memory.{further, holds, inside, byte-at, loaded, put-byte, stored}
+use Rattle.memory.specs.Memory.{fits, further, holds, inside, byte-at, loaded, put-byte, stored}
 
 below : (setup : Setup) (size a : ℕ) → a < setup .base → holds setup size a ≡ false
 below setup size a h = rw (lt-leb (setup .base) a h)
@@ -131,7 +131,7 @@ pub stored-more : (j k : ℕ) (setup : Setup) (bytes : List ℕ) (a v : ℕ)
 stored-more j k setup bytes a v =
     stored-wrapped k setup (stored j setup bytes a v) (a + j) (v / 2 ^ (8 * j)) ∙ sym (stored-join j k setup bytes a v)
 
--- ---- a store keeps memory's length
+-- ---- memory's length: a store keeps it, and the limits ask for no more
 put-length : (setup : Setup) (bytes : List ℕ) (a x : ℕ) → length (put-byte setup bytes a x) ≡ length bytes
 unfolding put-byte
 put-length setup bytes a x = go (holds setup (length bytes) a) _
@@ -144,3 +144,7 @@ pub stored-length : (count : ℕ) (setup : Setup) (bytes : List ℕ) (a v : ℕ)
 unfolding stored
 stored-length zero setup bytes a v = refl
 stored-length (suc n) setup bytes a v = put-length setup (stored n setup bytes a v) _ _ ∙ stored-length n setup bytes a v
+
+pub fits-as-long : (setup : Setup) (a b : List ℕ) → length b ≡ length a → fits setup a ≡ true → fits setup b ≡ true
+unfolding fits
+fits-as-long setup a b e f = rw e f

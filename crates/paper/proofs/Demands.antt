@@ -1,13 +1,12 @@
 -- One outcome; and a refused step hands back what it was given.
 use Prim.Native.Nat.{ℕ, _≤_}
-use mathlib.Core.Bool.{Bool, true, false, _&&_}
+use mathlib.Core.Bool.{true, _&&_}
 use mathlib.Core.List.{List}
 use mathlib.Core.Path.{_≡_, refl}
 use native.Mathlib.Omega.{arith}
 use borrow.Author.Tests.{eqb-false}
 use lib.Dec.{eqb}
-use Rattle.word.specs.Choice.{if_then_else_}
-use Rattle.word.proofs.Cases.{both-true}
+use Rattle.word.proofs.Cases.{both-true, chosen}
 use Rattle.word.proofs.Sole.{one-outcome}
 use Rattle.waiting.specs.Waiting.{waiting-count}
 use Rattle.memory.specs.declared.Setup.{Setup}
@@ -36,10 +35,6 @@ module _
     (stop : (n : ℕ) → 1 ≤ n → n ≤ 7 → P (keeping (refused n m) bytes))
     (went : (x : Machine) (after : List ℕ) → P (record { answer = done x; memory = after }))
   where
-    either : (t : Bool) (a b : Outcome) → (t ≡ true → P a) → (t ≡ false → P b) → P (if t then a else b)
-    either true a b p q = p refl
-    either false a b p q = q refl
-
     of-obeyed : (r : Record) → steady m ≡ true → P (obeyed m r bytes setup)
     of-obeyed r firm =
         obeyed-holds m bytes setup P (λ x. Unit {0}) (λ k v. Unit {0})
@@ -52,14 +47,14 @@ module _
     of-considered Refused firm = stop 2 (omega arith) (omega arith)
     of-considered (Is r) firm =
         let n = refusal r (waiting-count (m .waiting)) in
-        either (eqb n 0) _ _
+        chosen P (eqb n 0) _ _
         (λ e. of-obeyed r firm)
         (λ e. stop n (omega (arith, eqb-false n 0 e)) (omega (arith, refusal-low r (waiting-count (m .waiting)))))
 
     pub stepped-holds : (r : List ℕ) → P (stepped m r bytes setup)
     unfolding stepped
     stepped-holds r =
-        either (good m && fits setup bytes) _ _
+        chosen P (good m && fits setup bytes) _ _
         (λ e. of-considered (read-one r) (good-steady m (both-true (good m) (fits setup bytes) e .0)))
         (λ e. stop 1 (omega arith) (omega arith))
 

@@ -9,6 +9,7 @@ use lib.Dec.{eqb}
 use lib.ListN.{length}
 use Rattle.word.specs.Choice.{if_then_else_}
 use Rattle.word.specs.Word.{bit}
+use Rattle.word.proofs.Cases.{chosen}
 use Rattle.memory.specs.declared.Setup.{Setup}
 use Rattle.memory.specs.Memory.{inside}
 use Rattle.memory.proofs.Laws.{stored-length}
@@ -34,7 +35,7 @@ use Rattle.machine.specs.Branch.{direct-target, branch, register-branch, branch
 use Rattle.machine.specs.Compute.{shifted-register, constant-data, register-shift, add-number, move-number, turn-done, multiply-done, long-multiply, divide-done, saturate-done, bit-field, extend-done}
 use Rattle.machine.specs.Step.{effect, obeyed}
 use Rattle.paper.proofs.Registers.{steady-written, steady-onward, steady-linking}
-use Rattle.paper.proofs.Writes.{Each, Kept, one-of, data-kept, based-kept, list-kept, linking-kept}
+use Rattle.paper.proofs.Writes.{Each, Kept, data-kept, based-kept, list-kept, linking-kept}
 
 -- P holds of a refusal with 5, 6 or 7; and of a step that is done with a machine of which Q holds, R13 a multiple of 4 and memory as long
 pub record Ends (m : Machine) (bytes : List ℕ) (P : Outcome → Type 0) (Q : Machine → Type 0) : Type 0 where
@@ -46,28 +47,23 @@ module _
     (m : Machine) (bytes : List ℕ) (setup : Setup) (P : Outcome → Type 0) (Q : Machine → Type 0) (W : ℕ → ℕ → Type 0)
     (ends : Ends m bytes P Q) (keeps : Kept Q W) (firm : steady m ≡ true)
   where
-    either : (t : Bool) (a b : Outcome) → (t ≡ true → P a) → (t ≡ false → P b) → P (if t then a else b)
-    either true a b p q = p refl
-    either false a b p q = q refl
+    abbrev Answer : Stepped → Type 0
+    Answer answer = P (keeping answer bytes)
 
-    either-answer : (t : Bool) (a b : Stepped) → (t ≡ true → P (keeping a bytes)) → (t ≡ false → P (keeping b bytes)) → P (keeping (if t then a else b) bytes)
-    either-answer true a b p q = p refl
-    either-answer false a b p q = q refl
-
-    seven : P (keeping (refused 7 m) bytes)
+    seven : Answer (refused 7 m)
     seven = ends .stop 7 (omega arith, omega arith)
 
-    of-settled : (x : Machine) → Q x → P (keeping (settled m x) bytes)
+    of-settled : (x : Machine) → Q x → Answer (settled m x)
     unfolding settled
-    of-settled x q = either-answer (steady x) _ _ (λ e. ends .went x bytes q e refl) (λ e. seven)
+    of-settled x q = chosen Answer (steady x) _ _ (λ e. ends .went x bytes q e refl) (λ e. seven)
 
-    of-lands : (x : Machine) (value : ℕ) → Q x → P (keeping (lands m x value) bytes)
+    of-lands : (x : Machine) (value : ℕ) → Q x → Answer (lands m x value)
     unfolding lands
-    of-lands x value q = either-answer (bit 0 value) _ _ (λ e. of-settled x q) (λ e. seven)
+    of-lands x value q = chosen Answer (bit 0 value) _ _ (λ e. of-settled x q) (λ e. seven)
 
     of-storing : (x : Machine) (after : List ℕ) → Q x → length after ≡ length bytes → P (storing m x bytes after)
     unfolding storing
-    of-storing x after q l = either (steady x) _ _ (λ e. ends .went x after q e l) (λ e. seven)
+    of-storing x after q l = chosen P (steady x) _ _ (λ e. ends .went x after q e l) (λ e. seven)
 
     of-refusal : (aligned : Bool) (count address : ℕ) (a : Outcome) → P a
         → let n = access-refusal aligned count setup (length bytes) address in P (if eqb n 0 then a else keeping (refused n m) bytes)
@@ -79,18 +75,18 @@ module _
         go false true = p
         go false false = ends .stop 6 (omega arith, omega arith)
 
-    of-arriving : (back : Machine) (rt value : ℕ) → W rt value → Q back → P (keeping (arriving m back rt value) bytes)
+    of-arriving : (back : Machine) (rt value : ℕ) → W rt value → Q back → Answer (arriving m back rt value)
     unfolding arriving
     of-arriving back rt value w q =
         let to = keeps .write back rt value w q in
-        either-answer (eqb rt PC) _ _ (λ e. of-lands (written back rt value) value to) (λ e. of-settled (written back rt value) to)
+        chosen Answer (eqb rt PC) _ _ (λ e. of-lands (written back rt value) value to) (λ e. of-settled (written back rt value) to)
 
     of-access-done : (back : Machine) (op : AccessOp) (rt address : ℕ) → (loads op ≡ true → (v : ℕ) → W rt v) → Q back
         → P (access-done m back op rt address bytes setup)
     unfolding access-done access-made
     of-access-done back op rt address w q =
         of-refusal (is-ldr op && eqb rt PC) (width op) address _
-        (either (loads op) _ _
+        (chosen P (loads op) _ _
         (λ e. of-arriving back rt _ (w e _) q)
         (λ e. of-storing back _ q (after-store-length op setup bytes address (held m rt))))
 
@@ -107,32 +103,32 @@ module _
     of-dual next d w q =
         let back = based-kept Q W keeps next (d .mode) (d .rn) _ (w .2) q in
         of-refusal true 8 _ _
-        (either (loads-dual (d .op)) _ _
+        (chosen P (loads-dual (d .op)) _ _
         (λ e. of-settled _ (keeps .write _ (d .rt2) _ (w .1 _) (keeps .write _ (d .rt) _ (w .0 _) back)))
         (λ e. of-storing _ _ back (stored-length 4 setup _ _ _ ∙ stored-length 4 setup bytes _ _)))
 
     of-multiple : (next : Machine) (d : MultipleAccessFields) → Each m W (MultipleAccess d) → Q next → P (multiple-access m next d bytes setup)
     unfolding multiple-access multiple-made list-arriving
     of-multiple next d w q =
-        let back = one-of Q (d .writeback) _ _ (λ e. keeps .write next (d .rn) _ (w .1 e _) q) (λ e. q) in
+        let back = chosen Q (d .writeback) _ _ (λ e. keeps .write next (d .rn) _ (w .1 e _) q) (λ e. q) in
         of-refusal true _ _ _
-        (either (loads-many (d .op)) _ _
+        (chosen P (loads-many (d .op)) _ _
         (λ e.
         let next = list-kept Q W keeps 16 _ (d .list) _ bytes setup (w .0 e) back in
-        either-answer (member (d .list) PC) _ _ (λ f. of-lands _ _ next) (λ f. of-settled _ next))
+        chosen Answer (member (d .list) PC) _ _ (λ f. of-lands _ _ next) (λ f. of-settled _ next))
         (λ e. of-storing _ _ back (list-stored-length 16 setup bytes (m .registers) (d .list) _)))
 
-    of-register-branch : (next : Machine) (d : RegisterBranchFields) → Each m W (RegisterBranch d) → Q next → P (keeping (register-branch m next d) bytes)
+    of-register-branch : (next : Machine) (d : RegisterBranchFields) → Each m W (RegisterBranch d) → Q next → Answer (register-branch m next d)
     unfolding register-branch
     of-register-branch next d w q = of-lands _ _ (keeps .write _ PC _ (w .1 _) (linking-kept Q W keeps next (is-blx (d .op)) (w .0) q))
 
-    of-branch : (next : Machine) (d : BranchFields) → Each m W (Branch d) → steady next ≡ true → Q next → P (keeping (done (branch m next d)) bytes)
+    of-branch : (next : Machine) (d : BranchFields) → Each m W (Branch d) → steady next ≡ true → Q next → Answer (done (branch m next d))
     unfolding branch
     of-branch next d w s q =
         ends .went _ bytes (keeps .write _ PC _ (w .1) (linking-kept Q W keeps next (is-bl (d .op)) (w .0) q))
         (steady-written _ PC _ (λ e. omega arith) ∙ (steady-linking next (is-bl (d .op)) ∙ s)) refl
 
-    of-compare : (next : Machine) (d : CompareBranchFields) → Each m W (CompareBranch d) → steady next ≡ true → Q next → P (keeping (done (compare-branch m next d)) bytes)
+    of-compare : (next : Machine) (d : CompareBranchFields) → Each m W (CompareBranch d) → steady next ≡ true → Q next → Answer (done (compare-branch m next d))
     unfolding compare-branch
     of-compare next d w s q = go (branches (d .op) (held m (d .rn)))
       where
@@ -149,7 +145,7 @@ module _
     of-effect next (MoveNumber d) w s q = of-settled _ (keeps .write next (d .rd) _ (w _) q)
     of-effect next (Turn d) w s q = of-settled _ (keeps .write next (d .rd) _ (w _) q)
     of-effect next (Multiply d) w s q =
-        let to = keeps .write next (d .rd) _ (w _) q in of-settled _ (one-of Q (d .form .s) _ _ (λ e. keeps .flag _ _ to) (λ e. to))
+        let to = keeps .write next (d .rd) _ (w _) q in of-settled _ (chosen Q (d .form .s) _ _ (λ e. keeps .flag _ _ to) (λ e. to))
     of-effect next (LongMultiply d) w s q = of-settled _ (keeps .write _ (d .high) _ (w .1 _) (keeps .write next (d .low) _ (w .0 _) q))
     of-effect next (Divide d) w s q = of-settled _ (keeps .write next (d .rd) _ (w _) q)
     of-effect next (Saturate d) w s q = of-settled _ (keeps .flag _ _ (keeps .write next (d .rd) _ (w _) q))
@@ -170,4 +166,4 @@ module _
         → (condition-passes m r ≡ false → P (keeping (done (skipped m r)) bytes)) → P (obeyed m r bytes setup)
     unfolding obeyed
     obeyed-holds r w first missed =
-        either (condition-passes m r) _ _ (λ e. of-effect (onward m r) r w (steady-onward m r ∙ firm) (first e)) missed
+        chosen P (condition-passes m r) _ _ (λ e. of-effect (onward m r) r w (steady-onward m r ∙ firm) (first e)) missed

@@ -2,9 +2,9 @@
 use Prim.Native.Nat.{ℕ, zero, suc}
 use mathlib.Core.Bool.{Bool, true, false}
 use mathlib.Core.List.{List}
-use mathlib.Core.Path.{_≡_, refl}
+use mathlib.Core.Path.{_≡_}
 use lib.Dec.{ltb}
-use Rattle.word.specs.Choice.{if_then_else_}
+use Rattle.word.proofs.Cases.{chosen}
 use Rattle.flags.specs.declared.Flags.{Flags}
 use Rattle.shift.specs.declared.Shifted.{Shifted}
 use Rattle.memory.specs.declared.Setup.{Setup}
@@ -76,21 +76,17 @@ pub record Kept (Q : Machine → Type 0) (W : ℕ → ℕ → Type 0) : Type 0 w
   pub write : (x : Machine) (k v : ℕ) → W k v → Q x → Q (written x k v)
   pub flag : (x : Machine) (f : Flags) → Q x → Q (with-flags x f)
 
-pub one-of : (Q : Machine → Type 0) (t : Bool) (a b : Machine) → (t ≡ true → Q a) → (t ≡ false → Q b) → Q (if t then a else b)
-one-of Q true a b p q = p refl
-one-of Q false a b p q = q refl
-
 module _ (Q : Machine → Type 0) (W : ℕ → ℕ → Type 0) (keeps : Kept Q W) where
   pub data-kept : (m next : Machine) (op : DataOp) (s : Bool) (rd x : ℕ) (y : Shifted)
       → (ltb (data-code op) 12 ≡ true → (v : ℕ) → W rd v) → Q next → Q (data-done m next op s rd x y)
   unfolding data-done flagged resulting
   data-kept m next op s rd x y w q =
-      let to = one-of Q (ltb (data-code op) 12) _ _ (λ e. keeps .write next rd _ (w e _) q) (λ e. q) in
-      one-of Q s _ _ (λ e. keeps .flag _ _ to) (λ e. to)
+      let to = chosen Q (ltb (data-code op) 12) _ _ (λ e. keeps .write next rd _ (w e _) q) (λ e. q) in
+      chosen Q s _ _ (λ e. keeps .flag _ _ to) (λ e. to)
 
   pub based-kept : (next : Machine) (mode : Mode) (rn to : ℕ) → (is-offset mode ≡ false → (v : ℕ) → W rn v) → Q next → Q (based next mode rn to)
   unfolding based
-  based-kept next mode rn to w q = one-of Q (is-offset mode) _ _ (λ e. q) (λ e. keeps .write next rn to (w e to) q)
+  based-kept next mode rn to w q = chosen Q (is-offset mode) _ _ (λ e. q) (λ e. keeps .write next rn to (w e to) q)
 
   pub list-kept : (n : ℕ) (back : Machine) (list low : ℕ) (bytes : List ℕ) (setup : Setup)
       → ((k : ℕ) → member list k ≡ true → (v : ℕ) → W k v) → Q back → Q (list-loaded n back list low bytes setup)
@@ -98,8 +94,8 @@ module _ (Q : Machine → Type 0) (W : ℕ → ℕ → Type 0) (keeps : Kept Q W
   list-kept zero back list low bytes setup w q = q
   list-kept (suc n) back list low bytes setup w q =
       let rest = list-kept n back list low bytes setup w q in
-      one-of Q (member list n) _ _ (λ e. keeps .write _ n _ (w n e _) rest) (λ e. rest)
+      chosen Q (member list n) _ _ (λ e. keeps .write _ n _ (w n e _) rest) (λ e. rest)
 
   pub linking-kept : (next : Machine) (links : Bool) → ((v : ℕ) → W LR v) → Q next → Q (linking next links)
   unfolding linking
-  linking-kept next links w q = one-of Q links _ _ (λ e. keeps .write next LR _ (w _) q) (λ e. q)
+  linking-kept next links w q = chosen Q links _ _ (λ e. keeps .write next LR _ (w _) q) (λ e. q)

@@ -6,6 +6,7 @@ use mathlib.Core.Logic.{_⊎_, inl, inr, ⊎-elim}
 use native.Mathlib.Omega.{arith}
 use lib.Arith.{lt-of-le-ne}
 use lib.Dec.{leb, ltb}
+use Rattle.word.specs.Choice.{if_then_else_}
 use borrow.Author.Tests.{leb-true, leb-false, le-leb, ltb-true, lt-ltb}
 
 pub cases : {A B C : Type 0} → A ⊎ B → (A → C) → (B → C) → C
@@ -14,6 +15,11 @@ cases s f g = ⊎-elim f g s
 pub yes-or-no : (b : Bool) → (b ≡ true) ⊎ (b ≡ false)
 yes-or-no true = inl refl
 yes-or-no false = inr refl
+
+-- what holds of both arms, each under its truth, holds of the choice
+pub chosen : {A : Type 0} (P : A → Type 0) (t : Bool) (a b : A) → (t ≡ true → P a) → (t ≡ false → P b) → P (if t then a else b)
+chosen P true a b p q = p refl
+chosen P false a b p q = q refl
 
 pub le-or-gt : (a b : ℕ) → (a ≤ b) ⊎ (b < a)
 le-or-gt a b = cases (yes-or-no (leb a b)) (λ e. inl (leb-true a b e)) (λ e. inr (leb-false a b e))
