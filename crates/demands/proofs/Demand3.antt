@@ -18,7 +18,7 @@ use Rattle.listing.proofs.Accepted.{Accepted}
 use Rattle.machine.specs.Machine.{good}
 use Rattle.run.specs.Run.{Rehearsal, State, Passage, Course, faced, over, led-by, rounds, run-of}
 use Rattle.demands.specs.Run.{Ended, Unfit, Unaccepted, Reached, Strayed, Spent, Stopped}
-use Rattle.demands.specs.Demand3.{Start, Takes, Last, Attempt, Demand-3}
+use Rattle.demands.specs.Demand3.{Start, Not-1-to-4, Takes, Last, Attempt, Demand-3}
 use Rattle.demands.proofs.Rounds.{next-state, passage, By-rounds, rounds-hold}
 use Rattle.demands.proofs.Facing.{at-point}
 use Rattle.demands.proofs.Run.{begun-run, runs}
@@ -37,7 +37,7 @@ attempted budget h s c b (Stopped r p a l low high e) z t =
 
 -- ---- never 1 to 4, and 8 after a step that takes its next address, or before any
 record Claim (h : Rehearsal) (s : State) (c : Course) : Type 0 where
-  number : 1 ≤ c .number → c .number ≤ 4 → ⊥
+  number : Not-1-to-4 (c .number)
   stray : c .number ≡ 8 → ((c .steps ≡ []) × (faced h (s .machine) ≡ Stray)) ⊎ Last Takes (c .steps)
 
 last-more : (x : Passage) (xs : List Passage) → Last Takes xs → Last Takes (x ∷ xs)

@@ -29,6 +29,9 @@ pub record Start (h : Rehearsal) (s : State) : Type 0 where
   pub at-first : held (s .machine) PC ≡ h .base
   pub nothing-waits : s .machine .waiting ≡ nothing
 
+abbrev pub Not-1-to-4 : ℕ → Type 0
+Not-1-to-4 number = 1 ≤ number → number ≤ 4 → ⊥
+
 -- "A step takes its next address from a register or from memory just when its condition, if any, passes and its record is BX, .."
 pub record Takes (x : Passage) : Type 0 where
   pub passed : condition-passes (x .before .machine) (x .what) ≡ true
@@ -50,7 +53,7 @@ pub record Attempt (h : Rehearsal) (c : Course) : Type 0 where
 -- what is demanded of a run
 pub record Sound (h : Rehearsal) (c : Course) : Type 0 where
   -- "the run never ends with 1 to 4"
-  pub number : 1 ≤ c .number → c .number ≤ 4 → ⊥
+  pub number : Not-1-to-4 (c .number)
   -- "before every step the waiting conditions are those that the layout gives"
   pub steps : Every (λ x. At-record h (x .before .machine) (x .what) (x .point)) (c .steps)
   -- and so they are before the step that was refused or left out
