@@ -41,10 +41,7 @@ part == "edges" { lines[$1] }
 part == "definitions" { text_of[FILENAME] = text_of[FILENAME] $0 "\n" }
 part == "definitions" && /^[A-Za-z]/ {
     for (i = 1; $i ~ /^(abbrev|unfoldable|pub|record|data)$/; i++);
-    if ($(i + 1) == ":" || /^pub (record|data) /) {
-        defined[FILENAME, $i]
-        if (FILENAME ~ /\/proofs\//) theorems[$i]
-    }
+    if ($(i + 1) == ":" || /^pub (record|data) /) defined[FILENAME, $i]
     if (is_maker($0)) makers[$1]
 }
 
@@ -74,7 +71,11 @@ part == "code" && FNR == 1 {
     type = ""
 }
 part == "code" && /^pub mod / { open[module "::" word_of($3)] }
-part == "code" && /^pub (struct|enum) / { types[word_of($3)] }
+part == "code" && /^pub (struct|enum) / {
+    holder = word_of($3)
+    types[holder]
+}
+part == "code" && /^    (pub )?[a-z_]+: &'[a-z]+ mut / { lent_in[holder] }
 part == "code" && /^impl/ {
     type = $0
     sub(/^impl(<[^>]*>)? /, "", type)
@@ -90,7 +91,7 @@ part == "code" && /^ *(pub )?(extern "C" )?fn /, /\{$/ {
         sub(/^.*fn /, "", name)
         name = module type "::" word_of(name)
         put(name)
-        shapes[name] = shape(head)
+        heads[name] = head
         if (head ~ /^ *pub /) public[name] = module
     }
 }
@@ -117,10 +118,11 @@ function is_public(name,    place) {
     return !(("crates/" place "/src/main.rt") in there)
 }
 
-# The shape of a contract: A and B as docs/PROMISES.md says, C for any other.
-function shape(head,    at, contract, result, left, right, count, lent, maker) {
+# The shape of a function's contract: A and B as docs/PROMISES.md says, C for any other.
+function shape(name,    head, at, contract, result, left, right, count, lent, maker) {
+    head = heads[name]
     at = index(head, "ensures { λ ")
-    if (!at || head ~ /requires \{/) return "C"
+    if (!at || head ~ /requires \{/ || is_lent_inside(name)) return "C"
     contract = substr(head, at + length("ensures { λ "))
     head = substr(head, 1, at - 1)
     result = word_of(contract)
@@ -128,7 +130,7 @@ function shape(head,    at, contract, result, left, right, count, lent, maker) {
     at = index(contract, " ≡ ")
     left = substr(contract, 1, at - 1)
     right = substr(contract, at + length(" ≡ "))
-    if (!at || right ~ /\.exit|⌜|×|→|⊎/ || right ~ ("(^|[ (])" result "[ )]")) return "C"
+    if (!at || right ~ /\.exit|⌜|×|→|⊎|∧|∨|≡/ || right ~ ("(^|[ (])" result "[ )]")) return "C"
     for (count = 0; match(head, /[a-z_]+: &('[a-z]+ )?mut /); count++) {
         lent = lent " (now (" word_of(substr(head, RSTART)) " .exit))"
         head = substr(head, RSTART + RLENGTH)
@@ -138,6 +140,13 @@ function shape(head,    at, contract, result, left, right, count, lent, maker) {
     maker = left
     sub(/ .*/, "", maker)
     return maker in makers && left == maker " " result lent ? "B" : "C"
+}
+
+# May it change what a reference inside an argument lends?
+function is_lent_inside(name,    type) {
+    if (heads[name] ~ /&('[a-z]+ )?mut self/) return 1
+    for (type in lent_in) if ((name "(" heads[name]) ~ ("[^A-Za-z]" type "[^A-Za-z]")) return 1
+    return 0
 }
 
 # ---- docs/PROMISES.md
@@ -162,9 +171,11 @@ part == "promises" && /^\|/ {
         }
     } else if (!/^\|---/) {
         rows++
-        crate = ""
+        crate = theorem = ""
         for (i = 2; i < count; i++) look_up(title[i], cell[i])
-        if (count != columns) missing("the row", "it has " count - 2 " cells")
+        column = "row"
+        if (theorem != "") missing(theorem, "a theorem that the laws under proof don't have")
+        if (count != columns) missing("cells", count - 2 " of them, of " columns - 2)
     }
 }
 
@@ -176,7 +187,7 @@ function look_up(title, cell,    count, word, i) {
     count = split(cell, word, "`")
     for (i = 2; i <= count; i += 2)
         if (title == "definition") look_up_definition(word[i], word[i + 1])
-        else if (title == "promise" && word[i - 1] ~ /theorem $/) look_up_theorem(word[i])
+        else if (title == "promise" && word[i - 1] ~ /theorem $/) theorem = word[i]
         else if (title == "promise" || title == "function") look_up_function(word[i])
         else if (title == "proof") look_up_proof(word[i], word[i + 1])
         else if (title ~ EDITS) look_up_edit(word[i])
@@ -225,11 +236,6 @@ function look_up_definition(word, after) {
     else missing(word, spec == "" ? "no such type, and no file before it" : "not in " spec)
 }
 
-function look_up_theorem(word) {
-    if (word in theorems) definitions_named++
-    else missing(word, "no such theorem")
-}
-
 function look_up_function(word) {
     if (word ~ /::/) {
         place = word
@@ -247,8 +253,18 @@ function look_up_proof(word, after) {
     else if (after ~ /^ found/) look_up_found(word)
     else if (word ~ /\.antt$/) look_up_files(word)
     else if ((law, word) in defined) definitions_named++
-    else if (word ~ /^[A-Z][A-Za-z]*$/) look_up_files(law = "crates/" crate "/proofs/" word ".antt")
+    else if (word ~ /^[A-Z][A-Za-z0-9]*$/) look_up_laws("crates/" crate "/proofs/" word ".antt")
     else look_up_files("crates/" crate "/proofs/" word "/Proof.antt")
+}
+
+# a file of laws, which may have the theorem that the row promises, and whose names may follow
+function look_up_laws(file) {
+    law = file
+    look_up_files(file)
+    if ((file, theorem) in defined) {
+        definitions_named++
+        theorem = ""
+    }
 }
 
 # a proof that the checker finds: the function is there, and has no file
@@ -257,7 +273,7 @@ function look_up_found(path,    count, each, i) {
     for (i = 1; i <= count; i++) {
         if (("crates/" crate "/proofs/" each[i] "/Proof.antt") in there) missing(each[i], "its proof has a file")
         gsub(/\//, "::", each[i])
-        if ((crate "::" each[i]) in shapes) functions_named++
+        if ((crate "::" each[i]) in heads) functions_named++
         else missing(each[i], "no such function of " crate)
     }
 }
@@ -296,7 +312,7 @@ function look_up_public(word, expected,    count, each, i, name) {
     for (i = 1; i <= count; i++) {
         name = crate "::" each[i]
         if (!is_public(name)) missing(name, "no such public function")
-        else if (shapes[name] != expected) missing(name, "its shape is " shapes[name])
+        else if (shape(name) != expected) missing(name, "its shape is " shape(name))
         else of_shape[expected] += !(("list", name) in named)
         named["list", name]
     }
