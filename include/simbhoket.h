@@ -35,4 +35,8 @@ uint32_t simbhoket_run(uint8_t *machine, size_t machine_length, const uint8_t *l
                        uint32_t listing_base, uint8_t *memory, size_t memory_length, uint32_t memory_base, uint32_t budget,
                        uint8_t *answer, size_t answer_length);
 
+/* A rehearsal as the program does it: the length of its text, at most 256 bytes, which is put at the front of `room`; what is behind it
+   there stays as it was. Where the room is too short for the whole text, all of it stays as it was. */
+size_t simbhoket_rehearse(const uint8_t *listing, size_t listing_length, uint8_t *room, size_t room_length);
+
 #endif

@@ -15,6 +15,7 @@ use Rattle.machine.specs.Step.{stepped}
 use Rattle.image.specs.Image.{is-image, machine-of, image-of}
 use Rattle.listing.specs.declared.Checked.{Checked}
 use Rattle.run.specs.Run.{Rehearsal, state, run-of, Ending, outcome}
+use Rattle.rehearsal.specs.Program.{Told}
 use Rattle.kinds.specs.Kinds.{listing-length}
 use Rattle.reading.specs.declared.Read.{Read}
 use Rattle.reading.specs.declared.Read.the-variants.{Is, Refused}
@@ -70,6 +71,17 @@ image-run budget h image bytes answer =
     if is-image image && eqb (length answer) 12
     then run-leaving image answer (outcome (run-of budget h (state (machine-of image) bytes)))
     else run-left 1 image bytes answer
+
+-- the length of a rehearsal's text, and the lent room after it
+pub record TextLeft : Type 0 where
+  pub length : ℕ
+  pub room : List ℕ
+
+abbrev pub text-left : ℕ → List ℕ → TextLeft
+text-left length room = record { length = length; room = room }
+
+unfoldable pub text-laid : Told → TextLeft
+text-laid t = text-left (t .answer .length) (t .room)
 
 -- two numbers of 32 bits in one of 64
 abbrev pub pair : ℕ → ℕ → ℕ

@@ -8,7 +8,8 @@ ghost use Rattle.word.specs.Choice.{if_then_else_};
 ghost use Rattle.image.specs.Image.{image-of};
 ghost use Rattle.listing.specs.Check.{checked};
 ghost use Rattle.run.specs.Run.{rehearsal};
-ghost use Rattle.interface.specs.Interface.{left, image-stepped, run-left, with-answer, image-run, pair, measured, way-number, way-read, reported};
+ghost use Rattle.rehearsal.specs.Program.{rehearsed};
+ghost use Rattle.interface.specs.Interface.{left, image-stepped, run-left, with-answer, image-run, text-left, text-laid, pair, measured, way-number, way-read, reported};
 use flow::Way;
 use machine::Machine;
 use memory::Setup;
@@ -90,6 +91,14 @@ pub extern "C" fn simbhoket_run(
         return ran.number;
     }
     1
+}
+
+#[no_mangle]
+pub extern "C" fn simbhoket_rehearse(listing: &[u8], room: &mut [u8]) -> usize
+    ensures { λ n. ⌜ text-left n (now (room .exit)) ≡ text-laid (rehearsed (now (listing .entry)) (now (room .entry))) ⌝ }
+{
+    let told = rehearsal::rehearse(listing, room);
+    told.length
 }
 
 fn tell(answer: &mut [u8], number: u32, place: usize, count: u32)

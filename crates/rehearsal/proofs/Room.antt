@@ -13,10 +13,12 @@ use Rattle.listing.specs.Check.{checked}
 use Rattle.machine.specs.declared.Machine.{Machine}
 use Rattle.run.specs.declared.Ran.{Ran}
 use Rattle.run.specs.Run.{rehearsal, state, run-of, Ending, ending, outcome}
-use Rattle.text.specs.declared.Text.{Text}
 use Rattle.text.specs.Code.{blank, added}
 use Rattle.text.proofs.Texts.{check-length, end-length, Whole, whole}
-use Rattle.rehearsal.specs.Program.{start, ran, run-text, text-after, text-of, Told, told, rehearsed}
+use Rattle.rehearsal.specs.declared.Answer.{Answer}
+use Rattle.rehearsal.specs.declared.Page.{Page}
+use Rattle.rehearsal.specs.Code.{page}
+use Rattle.rehearsal.specs.Program.{start, ran, run-text, text-after, text-of, place-of, Told, told, rehearsed}
 
 pub ran-is : (r : Ran) (m : Machine) (listing memory : List ℕ) → m ≡ start
     → ending r memory
@@ -39,12 +41,13 @@ text-length listing =
     (λ e. rw e (check-length 1 0))
     (λ e. rw e (after-length (checked listing 0x1000) (ran listing)))
 
-pub whole-text : (t : Text) (listing : List ℕ) → t ≡ added blank (text-of listing) → Whole t (text-of listing)
-whole-text t listing e = rw e (whole (text-of listing) (text-length listing))
+pub whole-page : (g : Page) (listing : List ℕ) → g ≡ page (added blank (text-of listing)) (place-of listing)
+    → Whole (g .text) (text-of listing)
+whole-page g listing e = rw e (whole (text-of listing) (text-length listing))
 
-pub told-short : (length : ℕ) (listing room after : List ℕ) → told length after ≡ rehearsed listing room → length ≤ 256
+pub told-short : (answer : Answer) (listing room after : List ℕ) → told answer after ≡ rehearsed listing room → answer .length ≤ 256
 unfolding rehearsed
-told-short length listing room after e = rw (ap (λ (t : Told). t .length) e) (text-length listing)
+told-short answer listing room after e = rw (ap (λ (t : Told). t .answer .length) e) (text-length listing)
 
 -- one more byte copied to the front of a room
 pub laid-next : (bytes room : List ℕ) (i : ℕ) → i < length bytes → i < length room

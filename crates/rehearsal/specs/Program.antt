@@ -14,6 +14,7 @@ use Rattle.machine.specs.Machine.{SP, PC, fresh, written}
 use Rattle.run.specs.declared.Ran.{Ran}
 use Rattle.run.specs.Run.{rehearsal, state, run-of, outcome}
 use Rattle.text.specs.Text.{check-text, end-text}
+use Rattle.rehearsal.specs.declared.Answer.{Answer}
 
 -- "R13 0x20008000, R15 0x1000, all else 0"
 unfoldable pub start : Machine
@@ -35,17 +36,25 @@ unfoldable pub text-of : List ℕ → List ℕ
 text-of listing =
     if ltb 32768 (length listing) then check-text 1 0 else text-after (checked listing 0x1000) (ran listing)
 
+-- the place of the check or, for a refused step, of its record, which the text doesn't tell in each case
+unfoldable pub place-after : Checked → Ran → ℕ
+place-after c r = if eqb (c .number) 0 then r .place .0 else c .place .0
+
+unfoldable pub place-of : List ℕ → ℕ
+place-of listing = if ltb 32768 (length listing) then 0 else place-after (checked listing 0x1000) (ran listing)
+
 -- lent room with a text at its front; as it was where the text doesn't fit
 unfoldable pub laid : List ℕ → List ℕ → List ℕ
 laid text room = if leb (length text) (length room) then text ++ drop (length text) room else room
 
--- what a rehearsal answers, the length of its text, and the room after it
+-- what a rehearsal answers, and the room after it
 pub record Told : Type 0 where
-  pub length : ℕ
+  pub answer : Answer
   pub room : List ℕ
 
-abbrev pub told : ℕ → List ℕ → Told
-told length room = record { length = length; room = room }
+abbrev pub told : Answer → List ℕ → Told
+told answer room = record { answer = answer; room = room }
 
 unfoldable pub rehearsed : List ℕ → List ℕ → Told
-rehearsed listing room = told (length (text-of listing)) (laid (text-of listing) room)
+rehearsed listing room =
+    told (record { length = length (text-of listing); place = record { 0 = place-of listing } }) (laid (text-of listing) room)

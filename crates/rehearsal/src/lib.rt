@@ -4,10 +4,12 @@ ghost use mathlib.Core.Path.{_≡_};
 ghost use mathlib.Core.List.{_++_};
 ghost use Prim.Native.Nat.{_≤_};
 ghost use lib.ListN.{length, take, drop};
-ghost use Rattle.rehearsal.specs.Program.{start, ran, run-text, text-of, told, rehearsed};
+ghost use Rattle.rehearsal.specs.Program.{start, ran, run-text, text-of, place-of, told, rehearsed};
+ghost use Rattle.rehearsal.specs.Code.{page};
 ghost use Rattle.text.specs.Code.{blank, added};
 use machine::Machine;
 use memory::Setup;
+use reading::Place;
 use text::Text;
 
 const LIMIT: usize = 32768;
@@ -20,36 +22,55 @@ const MEMORY_END: u32 = 0x2000_8000;
 
 const BUDGET: u32 = 1_000_000;
 
-// Answers the length of the text, which is in the room if it fits there.
-pub fn rehearse(listing: &[u8], room: &mut [u8]) -> usize
+// The length of the text, and the place of what was refused.
+pub struct Answer {
+    pub length: usize,
+    pub place: Place,
+}
+
+pub struct Page {
+    pub text: Text,
+    pub place: Place,
+}
+
+// Puts the text in the room if it fits there.
+pub fn rehearse(listing: &[u8], room: &mut [u8]) -> Answer
     ensures { λ r. ⌜ told r (now (room .exit)) ≡ rehearsed (now (listing .entry)) (now (room .entry)) ⌝ }
 {
-    let text = text_of(listing);
+    let page = page_of(listing);
+    let place = page.place;
+    let text = page.text;
     let length = text.length;
     if length <= room.len() {
         let bytes = text.bytes;
         lay(&bytes, length, room);
     }
-    length
+    Answer { length, place }
 }
 
-fn text_of(listing: &[u8]) -> Text
-    ensures { λ r. ⌜ r ≡ added blank (text-of (now (listing .entry))) ⌝ }
+fn page_of(listing: &[u8]) -> Page
+    ensures { λ r. ⌜ r ≡ page (added blank (text-of (now (listing .entry)))) (place-of (now (listing .entry))) ⌝ }
 {
     if LIMIT < listing.len() {
-        return text::lines::check_text_of(1, 0);
+        return Page {
+            text: text::lines::check_text_of(1, 0),
+            place: Place(0),
+        };
     }
     let checked = listing::check(listing, BASE);
     let accepted = checked.number == 0;
     if accepted {
-        return run_text_of(listing);
+        return run_page_of(listing);
     }
     let place = checked.place;
-    text::lines::check_text_of(checked.number, place.0)
+    Page {
+        text: text::lines::check_text_of(checked.number, place.0),
+        place,
+    }
 }
 
-fn run_text_of(listing: &[u8]) -> Text
-    ensures { λ r. ⌜ r ≡ added blank (run-text (ran (now (listing .entry)))) ⌝ }
+fn run_page_of(listing: &[u8]) -> Page
+    ensures { λ r. ⌜ r ≡ page (added blank (run-text (ran (now (listing .entry))))) (ran (now (listing .entry)) .place .0) ⌝ }
 {
     let mut memory = [0u8; 32768];
     let setup = Setup { base: MEMORY_BASE };
@@ -57,7 +78,11 @@ fn run_text_of(listing: &[u8]) -> Text
     let machine = ran.machine;
     let registers = machine.registers;
     let flags = machine.flags;
-    text::lines::end_text_of(ran.number, ran.count, registers, flags)
+    let place = ran.place;
+    Page {
+        text: text::lines::end_text_of(ran.number, ran.count, registers, flags),
+        place,
+    }
 }
 
 fn start_of() -> Machine

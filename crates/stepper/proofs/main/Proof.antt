@@ -17,7 +17,24 @@ array-share-prefix-room c =
 slice-aggregate-write-all : tie.Need-slice-aggregate-write-all
 slice-aggregate-write-all c =
     let e = c .before .before in
-    sym (length-take-le (e .rehearse .result) (e .rehearse .last .1 .0) (array-share-prefix-room (c .before)))
+    sym (length-take-le (e .rehearse .result .length) (e .rehearse .last .1 .0) (array-share-prefix-room (c .before)))
 
 pub main-spec : {M : Type 1} → statement M
-main-spec = tie.close (tie.spec (λ c. search needs) (λ c κs. search needs) (λ c. search needs) (λ c. search needs) (λ c. search needs) (λ c κs. search needs) array-share-prefix-room slice-aggregate-write-all (λ c κs. search needs) (λ c. search needs))
+main-spec =
+    tie.close
+    (tie.spec
+    (λ c. search needs)
+    (λ c κs. search needs)
+    (λ c. search needs)
+    (λ c. search needs)
+    (λ c. search needs)
+    (λ c κs. search needs)
+    array-share-prefix-room
+    slice-aggregate-write-all
+    (λ c κs. search needs)
+    (λ c. search needs)
+    (λ c κs. search needs)
+    (λ c κs. search needs)
+    (λ c. search needs)
+    (λ c κs. search needs)
+    (λ c. search needs))

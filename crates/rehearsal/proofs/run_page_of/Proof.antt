@@ -1,0 +1,17 @@
+use Rattle.rehearsal.specs.Program.{run-text}
+use Rattle.rehearsal.proofs.Room.{ran-is}
+use borrow.Author.Needs.{needs}
+use Rattle.rehearsal.proofs.run_page_of.Statement.{statement}
+use Rattle.rehearsal.proofs.run_page_of.Tie as tie
+
+returns : tie.Need-returns
+unfolding run-text
+returns c =
+    let e = c .before .before .before .before .before .before in
+    let s = e .before .before in
+    let listing = s .before .before .args .listing .now in
+    let is = ran-is (e .run .result) (s .start-of .result) listing (e .run .last .1 .1 .1 .0) (s .start-of .ensures) (e .run .ensures) in
+    rw (← is, c .end-text-of .ensures)
+
+pub run-page-of-spec : {M : Type 1} → statement M
+run-page-of-spec = tie.close (tie.spec (λ c κs. search needs) (λ c. search needs) (λ c κs. search needs) (λ c κs. search needs) returns)
