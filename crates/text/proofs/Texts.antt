@@ -1,13 +1,13 @@
 -- What a text holds after bytes were added to it, and how long the lines are.
 use Prim.Native.Nat.{ℕ, zero, suc, _+_, _-_, _/_, _%_, _≤_, _<_}
-use mathlib.Core.Path.{_≡_, refl, sym, _∙_, ap}
+use mathlib.Core.Path.{_≡_, refl, _∙_, ap}
 use mathlib.Core.List.{List, [], _∷_, _++_, append-assoc, append-nil}
 use native.Mathlib.Nat.{add-zero}
 use native.Mathlib.Numerals.{add-one}
 use native.Mathlib.Omega.{arith}
 use borrow.Author.Tests.{lt-ltb, le-ltb}
 use lib.ListN.{length, take, drop, getD, set, replicate, length-set, length-append, length-replicate}
-use lib.Seq.{getD-set-same, drop-set-lt, drop-cons, take-suc, take-suc-set, append-snoc, set-at, length-take-le}
+use lib.Seq.{getD-set-same, drop-set-lt, drop-cons, take-suc-set, append-snoc}
 use Rattle.word.proofs.Cases.{cases, le-or-gt}
 use Rattle.flags.specs.declared.Flags.{Flags}
 use Rattle.text.specs.Text.{
@@ -46,7 +46,8 @@ module _ (n : ℕ) (behind : List ℕ) where
   abbrev put : ℕ → List ℕ
   put at = drop at (set behind at (digit (n % 10)))
 
-  pub last-digit : (at : ℕ) → 0 < at → at ≤ length behind → n < 10 → decimal-within at n ++ drop at behind ≡ put (at - 1)
+  pub last-digit : (at : ℕ) → 0 < at → at ≤ length behind → n < 10
+      → decimal-within at n ++ drop at behind ≡ put (at - 1)
   unfolding decimal-within
   last-digit zero p h small = absurd (omega arith)
   last-digit (suc at) p h small =
@@ -73,7 +74,8 @@ added-free t x xs free =
 
 -- while there is room, what is added stands behind what was there
 held : (xs : List ℕ) (t : Text) → length (t .bytes) ≡ 256 → t .length + length xs ≤ 256
-    → (added t xs .length ≡ t .length + length xs) × (take (t .length + length xs) (added t xs .bytes) ≡ take (t .length) (t .bytes) ++ xs)
+    → (added t xs .length ≡ t .length + length xs)
+    × (take (t .length + length xs) (added t xs .bytes) ≡ take (t .length) (t .bytes) ++ xs)
 unfolding added
 held [] t e h = simp (add-zero, append-nil) (refl, refl)
 held (x ∷ xs) t e h =
@@ -81,7 +83,8 @@ held (x ∷ xs) t e h =
     let rest = held xs (longer t x) (length-set (t .bytes) (t .length) x ∙ e) (omega arith) in
     let n : t .length + 1 + length xs ≡ t .length + suc (length xs) = omega arith in
     let seam : take (t .length + 1) (set (t .bytes) (t .length) x) ++ xs ≡ take (t .length) (t .bytes) ++ x ∷ xs =
-    rw (add-one, take-suc-set (t .bytes) (t .length) x (omega arith)) (append-snoc (take (t .length) (t .bytes)) x xs) in
+    rw (add-one, take-suc-set (t .bytes) (t .length) x (omega arith))
+    (append-snoc (take (t .length) (t .bytes)) x xs) in
     rw (added-free t x xs free, ← n) (rest .0, rest .1 ∙ seam)
 
 -- the bytes in use are a text
@@ -93,7 +96,8 @@ pub whole : (xs : List ℕ) → length xs ≤ 256 → Whole (added blank xs) xs
 unfolding blank
 whole xs h =
     let z : 0 + length xs ≡ length xs = omega arith in
-    let all = held xs (record { bytes = replicate 256 0; length = 0 }) (length-replicate {A = ℕ} 256 0) (omega arith) in
+    let start : Text = record { bytes = replicate 256 0; length = 0 } in
+    let all = held xs start (length-replicate {A = ℕ} 256 0) (omega arith) in
     record { count = all .0 ∙ z; front = rw z at (all .1) }
 
 decimal-length : (most n : ℕ) → length (decimal-within most n) ≤ most
@@ -105,7 +109,8 @@ decimal-length (suc most) n =
     (λ h. rw (lt-ltb n 10 h) (omega arith))
 
 pub added-line : (t : Text) (i : ℕ) (registers : List ℕ)
-    → added (added t (register-lines i registers)) (register-line i (getD registers i 0)) ≡ added t (register-lines (i + 1) registers)
+    → added (added t (register-lines i registers)) (register-line i (getD registers i 0))
+    ≡ added t (register-lines (i + 1) registers)
 unfolding register-lines
 added-line t i registers = rw (add-one, added-append)
 
@@ -122,7 +127,8 @@ flags-length : (f : Flags) → length (flags-line f) ≡ 12
 unfolding flags-line
 flags-length f = refl
 
-pub end-length : (number count : ℕ) (registers : List ℕ) (flags : Flags) → length (end-text number count registers flags) ≤ 256
+pub end-length : (number count : ℕ) (registers : List ℕ) (flags : Flags)
+    → length (end-text number count registers flags) ≤ 256
 unfolding end-text end-line decimal
 end-length number count registers flags =
     simp length-append

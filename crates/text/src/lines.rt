@@ -2,8 +2,7 @@
 
 ghost use mathlib.Core.Path.{_≡_};
 ghost use mathlib.Core.List.{_++_};
-ghost use Rattle.word.specs.Word.{one-if};
-ghost use Rattle.text.specs.Text.{letters, digit, decimal, check-text, register-line, register-lines, flags-line, end-text};
+ghost use Rattle.text.specs.Text.{letters, decimal, bit-digit, check-text, register-line, register-lines, flags-line, end-text};
 ghost use Rattle.text.specs.Code.{blank, added};
 use crate::Text;
 use flags::Flags;
@@ -74,7 +73,7 @@ fn say_flags(text: Text, flags: Flags) -> Text
 }
 
 fn bit_of(flag: bool) -> u8
-    ensures { λ r. ⌜ r ≡ digit (one-if flag) ⌝ }
+    ensures { λ r. ⌜ r ≡ bit-digit flag ⌝ }
 {
     if flag { b'1' } else { b'0' }
 }

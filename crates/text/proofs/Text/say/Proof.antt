@@ -30,4 +30,7 @@ returns c =
     rw (drop-of-length-le (c .before .before .before .args .words .now) {i = l .i} (omega arith)) at (l .inv .1)
 
 pub say-spec : {M : Type 1} → statement M
-say-spec = tie.close (tie.spec Inv-loop μ-loop loop-holds (λ c. omega arith) (λ c κs. search needs) (λ c. omega arith) (λ c. omega arith) loop-again returns)
+say-spec =
+    tie.close
+    (tie.spec Inv-loop μ-loop loop-holds (λ c. omega arith) (λ c κs. search needs) (λ c. omega arith)
+    (λ c. omega arith) loop-again returns)

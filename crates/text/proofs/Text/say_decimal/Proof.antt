@@ -54,4 +54,8 @@ returns-2 c =
     rw (c .say2 .ensures, all)
 
 pub say-decimal-spec : {M : Type 1} → statement M
-say-decimal-spec = tie.close (tie.spec Inv-loop μ-loop loop-holds (λ c. omega arith) (λ c κs. search needs) (λ c. omega arith) (λ c. omega arith) (λ c. search needs) part-say-end (λ c κs. search needs) returns (λ c. omega arith) loop-again (λ c. omega arith) (λ c κs. search needs) returns-2)
+say-decimal-spec =
+    tie.close
+    (tie.spec Inv-loop μ-loop loop-holds (λ c. omega arith) (λ c κs. search needs) (λ c. omega arith)
+    (λ c. omega arith) (λ c. search needs) part-say-end (λ c κs. search needs) returns (λ c. omega arith)
+    loop-again (λ c. omega arith) (λ c κs. search needs) returns-2)

@@ -8,4 +8,7 @@ unfolding check-text
 returns c = rw (c .say-two .ensures, c .before .before .before .new .ensures)
 
 pub check-text-of-spec : {M : Type 1} → statement M
-check-text-of-spec = tie.close (tie.spec (λ c κs. search needs) (λ c. search needs) (λ c. search needs) (λ c κs. search needs) returns)
+check-text-of-spec =
+    tie.close
+    (tie.spec (λ c κs. search needs) (λ c. search needs) (λ c. search needs) (λ c κs. search needs)
+    returns)

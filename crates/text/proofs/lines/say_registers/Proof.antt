@@ -28,4 +28,7 @@ returns : tie.Need-returns Inv-loop μ-loop
 returns c = let l = c .before .loop in let e : 16 ≡ l .i = omega arith in rw e (l .inv .1)
 
 pub say-registers-spec : {M : Type 1} → statement M
-say-registers-spec = tie.close (tie.spec Inv-loop μ-loop loop-holds (λ c. omega arith) (λ c. omega arith) (λ c κs. search needs) (λ c. omega arith) (λ c. omega arith) loop-again returns)
+say-registers-spec =
+    tie.close
+    (tie.spec Inv-loop μ-loop loop-holds (λ c. omega arith) (λ c. omega arith) (λ c κs. search needs)
+    (λ c. omega arith) (λ c. omega arith) loop-again returns)
