@@ -4,7 +4,7 @@ pub mod base;
 pub mod fault;
 mod fixed;
 pub mod listing;
-mod long;
+pub mod long;
 mod samples;
 mod tally;
 

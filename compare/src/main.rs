@@ -17,13 +17,15 @@ mod samples;
 mod steps;
 mod stock;
 mod table;
+mod texts;
 mod unfit;
 mod worked;
 
 use std::process::ExitCode;
 
-const USAGE: &str = "usage: compare records | steps [SEED] | checks [SEED] | runs [SEED] | bench
-     | worked FILE | worked-checks FILE LEAST | worked-runs FILE LEAST
+const USAGE: &str =
+    "usage: compare records | steps [SEED] | checks [SEED] | runs [SEED] | texts [SEED]
+     | bench | worked FILE | worked-checks FILE LEAST | worked-runs FILE LEAST
 SEED and LEAST, the fewest cases that a file has to have, are decimal numbers.";
 
 /// An error is a text that says what differs.
@@ -58,6 +60,8 @@ fn outcome(words: &[&str]) -> Option<Result<String, String>> {
         ["checks", seed] => checks::run(seed.parse().ok()?),
         ["runs"] => runs::run(runs::SEED),
         ["runs", seed] => runs::run(seed.parse().ok()?),
+        ["texts"] => texts::run(texts::SEED),
+        ["texts", seed] => texts::run(seed.parse().ok()?),
         ["worked", file] => worked::steps(file, 1),
         ["worked-checks", file, least] => worked::checks(file, least.parse().ok()?),
         ["worked-runs", file, least] => worked::runs(file, least.parse().ok()?),

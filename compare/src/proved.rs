@@ -30,6 +30,12 @@ extern "C" {
         answer_length: usize,
     ) -> u32;
     fn simbhoket_check(listing: *const u8, listing_length: usize, base: u32) -> u64;
+    fn simbhoket_rehearse(
+        listing: *const u8,
+        listing_length: usize,
+        room: *mut u8,
+        room_length: usize,
+    ) -> usize;
 }
 
 /// The number of bytes that must be one record, where so many conditions wait.
@@ -98,4 +104,10 @@ pub fn run(
 pub fn check(listing: &[u8], base: u32) -> u64 {
     // SAFETY: as above.
     unsafe { simbhoket_check(listing.as_ptr(), listing.len(), base) }
+}
+
+/// The length of a rehearsal's text, which is put at the front of the room where it fits.
+pub fn rehearse(listing: &[u8], room: &mut [u8]) -> usize {
+    // SAFETY: as above, with one slice lent to be changed.
+    unsafe { simbhoket_rehearse(listing.as_ptr(), listing.len(), room.as_mut_ptr(), room.len()) }
 }

@@ -3,15 +3,15 @@
 mod counts;
 mod demand;
 mod long;
-mod pieces;
+pub mod pieces;
 pub mod samples;
-mod scene;
+pub mod scene;
 mod sights;
 mod spoil;
 mod start;
 mod tally;
 mod trace;
-mod writer;
+pub mod writer;
 
 use crate::prng::Prng;
 use crate::question::run::{Answer, Question};

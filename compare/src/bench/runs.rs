@@ -60,7 +60,7 @@ fn stream_of(count: usize) -> Records {
 pub fn all_samples() -> Result<String, String> {
     let mut lines = vec![format!("runs of the samples, median of {ROUNDS} or one:")];
     for sample in samples()? {
-        let (times, count) = times(&question(&sample))?;
+        let (times, count) = times(&question(&sample.listing))?;
         let [proved, second] = times.map(|time| time.as_secs_f64() * 1e3);
         let (name, ratio) = (sample.name, proved / second);
         let times = format!("proved {proved:8.2} ms, second {second:7.2} ms, {ratio:.1} times");

@@ -45,7 +45,7 @@ fn far(comparison: &mut Comparison) -> Outcome {
 }
 
 /// A listing of just so many bytes that is accepted but for its length.
-fn records(prng: &mut Prng, bytes: usize) -> Records {
+pub fn records(prng: &mut Prng, bytes: usize) -> Records {
     let (mut records, mut length, mut measured) = (Records::new(), 0, 0);
     while length < bytes - ROOM {
         some(prng, &mut records);

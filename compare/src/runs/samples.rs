@@ -3,7 +3,7 @@
 use super::Comparison;
 use crate::image::{parts, Image, BYTES, FLAG_NAMES};
 use crate::question::run::{Question, ROOM};
-use crate::samples::{samples, Sample};
+use crate::samples::samples;
 use crate::Outcome;
 use std::fmt::Write;
 
@@ -13,12 +13,12 @@ const BUDGET: u32 = 1_000_000;
 
 /// "base 0x1000, memory 32,768 zero bytes at 0x20000000, R13 0x20008000, R15 0x1000, all else 0,
 /// budget 1,000,000".
-pub fn question(sample: &Sample) -> Question {
+pub fn question(listing: &[u8]) -> Question {
     let (mut image, memory_base) = (Image::FRESH, 0x2000_0000);
     (image.registers[SP], image.registers[PC]) = (0x2000_8000, 0x1000);
     Question {
         image: image.bytes(),
-        listing: sample.listing.clone(),
+        listing: listing.to_vec(),
         listing_base: 0x1000,
         memory: vec![0; 32_768],
         memory_base,
@@ -29,7 +29,7 @@ pub fn question(sample: &Sample) -> Question {
 
 pub fn all(comparison: &mut Comparison) -> Outcome {
     for sample in samples()? {
-        let (number, count) = comparison.put(&question(&sample))?;
+        let (number, count) = comparison.put(&question(&sample.listing))?;
         let image = &comparison.answer().lent.image;
         let written = format!("end {number} steps {count}\n{}", state(image));
         if written != sample.end {

@@ -46,11 +46,11 @@ pub struct Scene {
 }
 
 /// Where the parts of memory are.
-struct Map {
-    base: u32,
-    length: u32,
-    data: u32,
-    table: u32,
+pub struct Map {
+    pub base: u32,
+    pub length: u32,
+    pub data: u32,
+    pub table: u32,
 }
 
 pub fn scene(prng: &mut Prng) -> Scene {
@@ -76,7 +76,7 @@ pub fn scene(prng: &mut Prng) -> Scene {
     Scene { records, base, image, memory, memory_base: map.base, lies }
 }
 
-fn plan(prng: &mut Prng, lies: Lies) -> Plan {
+pub fn plan(prng: &mut Prng, lies: Lies) -> Plan {
     let records = match prng.below(8) {
         0 => prng.below(4),
         1 | 2 => prng.below(16),
@@ -118,7 +118,7 @@ fn memory(prng: &mut Prng, map: &Map, table: &[u32]) -> Vec<u8> {
 }
 
 /// R15 is for the start to set.
-fn machine(prng: &mut Prng, map: &Map, link: u32) -> Image {
+pub fn machine(prng: &mut Prng, map: &Map, link: u32) -> Image {
     let mut image = Image::FRESH;
     let end = map.base.wrapping_add(map.length);
     let mut set = |register: u8, value: u32| image.registers[usize::from(register)] = value;
