@@ -4,10 +4,11 @@ use super::clock::{median, Rounds};
 use super::stream::{self, Stream};
 use super::{rate, BASE, MEMORY};
 use crate::checks::listing::{end_of, lead, Records, BRANCH};
+use crate::proved;
 use crate::question::run::{Answer, Question, ROOM};
 use crate::question::Question as _;
-use crate::runs::samples::question;
 use crate::samples::samples;
+use second::program::program;
 use std::time::Duration;
 
 const SEED: u64 = 0xBE4C_0520;
@@ -18,6 +19,8 @@ const RECORDS: usize = 1_000;
 const STEPS: u32 = 1_000_000;
 const LISTING_BASE: u32 = 0x1000;
 const AL: u8 = 14;
+/// No text is longer.
+const TEXT: usize = 256;
 
 /// A loop through all of a listing, until the steps are used up.
 pub fn long() -> Result<String, String> {
@@ -57,16 +60,33 @@ fn stream_of(count: usize) -> Records {
     records
 }
 
+/// Check, run and text, as the program does them.
 pub fn all_samples() -> Result<String, String> {
-    let mut lines = vec![format!("runs of the samples, median of {ROUNDS} or one:")];
+    let mut lines = vec![format!("the samples through the program, median of {ROUNDS} or one:")];
     for sample in samples()? {
-        let (times, count) = times(&question(&sample.listing))?;
-        let [proved, second] = times.map(|time| time.as_secs_f64() * 1e3);
+        let [proved, second] = program_times(&sample.listing)?.map(|time| time.as_secs_f64() * 1e3);
         let (name, ratio) = (sample.name, proved / second);
-        let times = format!("proved {proved:8.2} ms, second {second:7.2} ms, {ratio:.1} times");
-        lines.push(format!("  {name:12} {count:7} steps: {times}"));
+        lines.push(format!(
+            "  {name:12} proved {proved:8.2} ms, second {second:7.2} ms, {ratio:.1} times"
+        ));
     }
     Ok(lines.join("\n"))
+}
+
+fn program_times(listing: &[u8]) -> Result<[Duration; 2], String> {
+    let mut rounds = [Rounds::new(), Rounds::new()];
+    let (mut room, mut length, mut text) = ([0; TEXT], 0, String::new());
+    for _ in 0..ROUNDS {
+        rounds[0].take(|| length = proved::rehearse(listing, &mut room));
+        rounds[1].take(|| text = program(listing));
+        if room.get(..length) != Some(text.as_bytes()) {
+            return Err("the sides write a text differently: see `compare texts`".to_string());
+        }
+        if rounds[0].last() > LONG {
+            break;
+        }
+    }
+    Ok(rounds.map(median))
 }
 
 /// Of one run by each side, and its steps.
