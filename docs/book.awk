@@ -327,6 +327,7 @@ function equation(left, right,    line) {
     line = left " = " right
     if (columns(line) <= WIDTH - 4) return line
     if (columns(right) <= WIDTH - 8) return left " =\n    " right
+    if (columns(left) < 20) return broken(line, "      ", WIDTH - 4)
     return left " =\n" broken("    " right, "      ", WIDTH - 4)
 }
 
@@ -501,6 +502,7 @@ function settle(    i, k, count, word, id, chapter, section, place) {
             place = ++chapter
             section = 0
         } else if (word[1] == "-") place = chapter "." ++section
+        else if (word[1] == "alone") alone[chapter]
         else if (word[1] == "spec") {
             if (!(word[2] in files)) missing(i, word[2] ": no such file of specs/")
             if (count == 2) {
@@ -565,7 +567,7 @@ function write(i,    count, word, k) {
             put("Theorem " substr(word[2], 1, index(word[2], "/") - 1) "::" word[k] ":")
             put(indented(statement_of[word[2], word[k]]))
         }
-    else if (was != ">") missing(i, was ": not known")
+    else if (was !~ /^(>|alone)$/) missing(i, was ": not known")
 }
 
 # a name between backquotes is one that the book has
@@ -588,7 +590,10 @@ function check_all(    key, k, count, word, id) {
                 shown[word[k]]
             }
     }
-    for (id in place_of) check_names(id)
+    for (id in place_of) {
+        check_names(id)
+        check_alone(id)
+    }
 }
 
 # What the preface's rule says of a name with several definitions is what the sources mean by it.
@@ -601,6 +606,17 @@ function check_names(id,    key, count, word, k, meant) {
             if (meant != "" && meant != by_rule(word[k], place_of[id]))
                 amiss(key ": " substr(id, index(id, SUBSEP) + 1) ": its " word[k] " is " meant "'s, by the rule " by_rule(word[k], place_of[id]) "'s")
         }
+}
+
+# Nothing outside a chapter for itself names what is in it.
+function check_alone(id,    key, count, word, k, meant) {
+    key = substr(id, 1, index(id, SUBSEP) - 1)
+    count = words_in(text_of[id], word)
+    for (k = 1; k <= count; k++) {
+        meant = meaning[key, word[k]] SUBSEP word[k]
+        if (meant in place_of && int(place_of[meant]) in alone && int(place_of[meant]) != int(place_of[id]))
+            amiss(key ": " substr(id, index(id, SUBSEP) + 1) ": names " word[k] ", which stands in a chapter for itself")
+    }
 }
 
 function is_shared(name,    count, home, k, times) {
