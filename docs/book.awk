@@ -46,15 +46,15 @@ function split_at(text, separator, each,    count, at) {
 }
 
 # the same, outside all brackets
-function split_outside(text, separator, each,    count, piece, pieces, part, i) {
+function split_outside(text, separator, each,    count, piece, pieces, held, i) {
     pieces = split_at(text, separator, piece)
     count = 0
-    part = ""
+    held = ""
     for (i = 1; i <= pieces; i++) {
-        part = part == "" ? piece[i] : part separator piece[i]
-        if (depth(part) == 0) {
-            each[++count] = part
-            part = ""
+        held = held == "" ? piece[i] : held separator piece[i]
+        if (depth(held) == 0) {
+            each[++count] = held
+            held = ""
         }
     }
     return count
@@ -332,7 +332,7 @@ function equation(left, right,    line) {
 }
 
 # Equations that differ in one argument, a case of its own in each, and come to the same are one, with `|` between the cases.
-function merged(name, left, right, count,    i, k, at, size, first, second, seen, part, kept, to) {
+function merged(name, left, right, count,    i, k, at, size, first, second, seen, mine, kept, to) {
     at = 0
     for (i = 1; i <= count; i++) {
         if (left[i] !~ ("^" name " ")) return count
@@ -344,23 +344,24 @@ function merged(name, left, right, count,    i, k, at, size, first, second, seen
                 at = k
             }
     }
+    if (!at) return count
     for (i = 1; i <= count; i++) {
         split_outside(left[i], " ", second)
-        part[i] = without_brackets(second[at])
-        split(part[i], second, " ")
+        mine[i] = without_brackets(second[at])
+        split(mine[i], second, " ")
         if (second[1] in seen) return count
         seen[second[1]]
     }
     kept = 0
     for (i = 1; i <= count; i++)
-        if (right[i] in to) part[to[right[i]]] = part[to[right[i]]] " | " part[i]
+        if (right[i] in to) mine[to[right[i]]] = mine[to[right[i]]] " | " mine[i]
         else {
             to[right[i]] = ++kept
             right[kept] = right[i]
-            part[kept] = part[i]
+            mine[kept] = mine[i]
         }
     for (i = 1; i <= kept; i++) {
-        first[at] = part[i] ~ / / ? "(" part[i] ")" : part[i]
+        first[at] = mine[i] ~ / / ? "(" mine[i] ")" : mine[i]
         left[i] = name
         for (k = 2; k <= size; k++) left[i] = left[i] " " first[k]
         if (columns(left[i]) > WIDTH - 4) left[i] = filled(left[i], " | ", "    ", WIDTH - 4)
