@@ -382,7 +382,7 @@ function gap() {
 
 # a definition under its comment, with the promises that cite it at the end of its first line or of the comment
 function put_definition(id,    text, note, at, first, comment) {
-    comment = comment_of[id]
+    comment = with_kind(comment_of[id])
     note = cited_by(id)
     text = definition(id)
     at = index(text, "\n")
@@ -394,6 +394,12 @@ function put_definition(id,    text, note, at, first, comment) {
     if (comment != "") put(comment)
     put(indented(text))
     definitions++
+}
+
+# a comment that begins with a kind's number alone
+function with_kind(text) {
+    sub(/^[01][0-9A-F]($|[:,\n])/, "kind &", text)
+    return text
 }
 
 # the functions whose promise names a definition, and the theorem that states it
@@ -415,7 +421,7 @@ function cited_by(id,    note, key, name, crate, count, piece, i) {
 
 function put_type(type,    text, note) {
     text = type_text[type]
-    note = type_note[type]
+    note = with_kind(type_note[type])
     if (text ~ /\/\//) text = with_notes_after(text)
     else {
         gsub(/\n */, ", ", text)
