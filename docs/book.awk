@@ -65,15 +65,15 @@ function without_brackets(text) {
 }
 
 # a text, broken after a separator where it would be wider than this
-function filled(text, separator, indent, width,    piece, pieces, i, line, result) {
+function filled(text, separator, indent, width,    end, piece, pieces, i, line, result) {
     pieces = split_at(text, separator, piece)
+    end = separator
+    sub(/[ \001]+$/, "", end)
     line = piece[1]
     for (i = 2; i <= pieces; i++)
-        if (columns(line separator piece[i]) < width) line = line separator piece[i]
+        if (columns(line separator piece[i] (i < pieces ? end : "")) <= width) line = line separator piece[i]
         else {
-            result = result line separator
-            sub(/[ \001]+$/, "", result)
-            result = result "\n"
+            result = result line end "\n"
             line = indent piece[i]
         }
     return result line
