@@ -25,7 +25,7 @@ use std::process::ExitCode;
 
 const USAGE: &str =
     "usage: compare records | steps [SEED] | checks [SEED] | runs [SEED] | texts [SEED]
-     | bench | worked FILE | worked-checks FILE LEAST | worked-runs FILE LEAST
+     | bench | worked-steps FILE LEAST | worked-checks FILE LEAST | worked-runs FILE LEAST
 SEED and LEAST, the fewest cases that a file has to have, are decimal numbers.";
 
 /// An error is a text that says what differs.
@@ -62,7 +62,7 @@ fn outcome(words: &[&str]) -> Option<Result<String, String>> {
         ["runs", seed] => runs::run(seed.parse().ok()?),
         ["texts"] => texts::run(texts::SEED),
         ["texts", seed] => texts::run(seed.parse().ok()?),
-        ["worked", file] => worked::steps(file, 1),
+        ["worked-steps", file, least] => worked::steps(file, least.parse().ok()?),
         ["worked-checks", file, least] => worked::checks(file, least.parse().ok()?),
         ["worked-runs", file, least] => worked::runs(file, least.parse().ok()?),
         ["bench"] => bench::run(),
