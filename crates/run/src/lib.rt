@@ -87,10 +87,10 @@ fn repeat(
         m = round.machine;
         let over = round.over;
         if over {
-            let place = round.place;
+            let at = round.place;
             return Ran {
                 number: round.number,
-                place,
+                place: at,
                 count,
                 machine: m,
             };
