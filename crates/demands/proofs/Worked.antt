@@ -5,7 +5,7 @@ use Rattle.address.specs.Address.{cleared, linked}
 use Rattle.waiting.specs.Waiting.{waiting-count, dropped, same, good-waiting}
 use Rattle.fields.specs.Fields.{well-formed}
 use Rattle.restricted.specs.Restricted.{allowed}
-use Rattle.flow.specs.Flow.{wide, machine-length, way, leaves, alone, misplaced, after, own-condition}
+use Rattle.flow.specs.Flow.{traits, machine-length, way, leaves, misplaced, opened, after, own-condition}
 use Rattle.kinds.specs.Kinds.{listing-length, names, form, register-branch, record-of}
 use Rattle.reading.specs.Reading.{coded, named, read-one, found-at, read-at}
 use Rattle.judge.specs.Judge.{refusal}
@@ -22,7 +22,7 @@ use Rattle.demands.specs.Demand3.{Start}
 use Rattle.demands.specs.Worked.{shown, from, table, Worked}
 
 pub worked : Worked table
-unfolding cleared linked waiting-count dropped same good-waiting well-formed allowed wide machine-length way leaves alone misplaced after own-condition listing-length names form register-branch record-of coded named read-one found-at read-at refusal passes fits start next judged-at meets walk layout sought held-there held-at at-address lowest free end-fault fault astray branch-fault first-pass second-pass checked held operand-value kept written with-waiting good ruling condition-passes advanced onward refused done steady settled lands linking register-branch-done effect obeyed considered stepped agreeing faced attempted round-at round used-up rounds run-of
+unfolding cleared linked waiting-count dropped same good-waiting well-formed allowed traits machine-length way leaves misplaced opened after own-condition listing-length names form register-branch record-of coded named read-one found-at read-at refusal passes fits start next judged-at meets walk layout sought held-there held-at at-address lowest free end-fault fault astray branch-fault first-pass second-pass checked held operand-value kept written with-waiting good ruling condition-passes advanced onward refused done steady settled lands linking register-branch-done effect obeyed considered stepped agreeing faced attempted round-at round used-up rounds run-of
 worked = (
   (any 0x1005, refl, refl, refl),
   ((any 0x2000, refl, refl, refl), ((any 0x2001, refl, refl, refl), ((any 0x1001, refl, refl, refl), tt))),

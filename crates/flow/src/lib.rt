@@ -1,7 +1,11 @@
 // What a record does to the way through a listing.
 
 ghost use mathlib.Core.Path.{_≡_};
-ghost use Rattle.flow.specs.Flow.{wide, machine-length, to-pc, taken-if, way, target, leaves, alone, misplaced, after, own-condition};
+ghost use Rattle.flow.specs.Flow.{form-length, to-pc, taken-if, going, passing, lone, traits, machine-length, way, target, leaves, misplaced, opened, after, own-condition};
+ghost use Rattle.record.specs.declared.Record.the-variants.{Branch, IfThen};
+use record::BranchFields;
+use record::Form;
+use record::IfThenFields;
 use record::Record;
 use record::op::DataOp;
 use waiting::Waiting;
@@ -16,85 +20,131 @@ pub enum Way {
     Taken,
 }
 
-pub fn machine_length_of(r: Record) -> u32
-    ensures { λ n. ⌜ n ≡ machine-length r ⌝ }
-{
-    let four = wide_of(r);
-    if four {
-        return 4;
-    }
-    2
+// What a record opens: no block, or one of a condition, a count and else bits.
+pub enum Opens {
+    Nothing,
+    Block(u8, u8, u8),
 }
 
-fn wide_of(r: Record) -> bool
-    ensures { λ t. ⌜ t ≡ wide r ⌝ }
-{
-    match r {
-        Record::ShiftedRegister(d) => d.form.wide,
-        Record::Constant(d) => d.form.wide,
-        Record::RegisterShift(d) => d.form.wide,
-        Record::AddNumber(d) => d.form.wide,
-        Record::MoveNumber(d) => d.form.wide,
-        Record::Turn(d) => d.form.wide,
-        Record::Multiply(d) => d.form.wide,
-        Record::LongMultiply(d) => d.form.wide,
-        Record::Divide(d) => d.form.wide,
-        Record::Saturate(d) => d.form.wide,
-        Record::BitField(d) => d.form.wide,
-        Record::Extend(d) => d.form.wide,
-        Record::Access(d) => d.form.wide,
-        Record::IndexedAccess(d) => d.form.wide,
-        Record::DualAccess(d) => d.form.wide,
-        Record::MultipleAccess(d) => d.form.wide,
-        Record::Branch(d) => d.form.wide,
-        Record::RegisterBranch(d) => d.form.wide,
-        Record::CompareBranch(d) => d.form.wide,
-        Record::IfThen(d) => d.form.wide,
-        Record::Nop(form) => form.wide,
-    }
+// What a listing must know of a record.
+pub struct Traits {
+    // in machine bytes
+    pub length: u32,
+    pub way: Way,
+    // only where nothing waits?
+    pub alone: bool,
+    // the condition that rules it outside a block
+    pub own: u8,
+    pub opens: Opens,
 }
 
-pub fn way_of(r: Record) -> Way
-    ensures { λ t. ⌜ t ≡ way r ⌝ }
+// One match a record: a kind more is a row here.
+pub fn traits_of(r: Record) -> Traits
+    ensures { λ t. ⌜ t ≡ traits r ⌝ }
 {
     match r {
         Record::ShiftedRegister(d) => {
             let op = d.op;
-            taken_if_of(to_pc_of(op, d.rd))
+            going_of(d.form, taken_if_of(to_pc_of(op, d.rd)))
         }
         Record::Constant(d) => {
             let op = d.op;
-            taken_if_of(to_pc_of(op, d.rd))
+            going_of(d.form, taken_if_of(to_pc_of(op, d.rd)))
         }
-        Record::RegisterShift(_) => Way::Next,
-        Record::AddNumber(_) => Way::Next,
-        Record::MoveNumber(_) => Way::Next,
-        Record::Turn(_) => Way::Next,
-        Record::Multiply(_) => Way::Next,
-        Record::LongMultiply(_) => Way::Next,
-        Record::Divide(_) => Way::Next,
-        Record::Saturate(_) => Way::Next,
-        Record::BitField(_) => Way::Next,
-        Record::Extend(_) => Way::Next,
+        Record::RegisterShift(d) => passing_of(d.form),
+        Record::AddNumber(d) => passing_of(d.form),
+        Record::MoveNumber(d) => passing_of(d.form),
+        Record::Turn(d) => passing_of(d.form),
+        Record::Multiply(d) => {
+            let op = d.op;
+            lone_of(record::op::is_mul_of(op) & d.form.s, d.form, Way::Next)
+        }
+        Record::LongMultiply(d) => passing_of(d.form),
+        Record::Divide(d) => passing_of(d.form),
+        Record::Saturate(d) => passing_of(d.form),
+        Record::BitField(d) => passing_of(d.form),
+        Record::Extend(d) => passing_of(d.form),
         Record::Access(d) => {
             let op = d.op;
-            taken_if_of(record::op::is_ldr_of(op) & (d.rt == 15))
+            going_of(
+                d.form,
+                taken_if_of(record::op::is_ldr_of(op) & (d.rt == 15)),
+            )
         }
         Record::IndexedAccess(d) => {
             let op = d.op;
-            taken_if_of(record::op::is_ldr_of(op) & (d.rt == 15))
+            going_of(
+                d.form,
+                taken_if_of(record::op::is_ldr_of(op) & (d.rt == 15)),
+            )
         }
-        Record::DualAccess(_) => Way::Next,
+        Record::DualAccess(d) => passing_of(d.form),
         Record::MultipleAccess(d) => {
             let op = d.op;
-            taken_if_of(record::op::loads_many_of(op) & register_list::holds(d.list, 15))
-        },
-        Record::Branch(d) => Way::Direct(d.offset),
-        Record::RegisterBranch(_) => Way::Taken,
-        Record::CompareBranch(d) => Way::Direct(d.offset as i32),
-        Record::IfThen(_) => Way::Next,
-        Record::Nop(_) => Way::Next,
+            let leaves = record::op::loads_many_of(op) & register_list::holds(d.list, 15);
+            going_of(d.form, taken_if_of(leaves))
+        }
+        Record::Branch(d) => branch_traits_of(d),
+        Record::RegisterBranch(d) => going_of(d.form, Way::Taken),
+        Record::CompareBranch(d) => lone_of(true, d.form, Way::Direct(d.offset as i32)),
+        Record::IfThen(d) => if_then_traits_of(d),
+        Record::Nop(form) => passing_of(form),
     }
+}
+
+fn branch_traits_of(d: BranchFields) -> Traits
+    ensures { λ t. ⌜ t ≡ traits (Branch d) ⌝ }
+{
+    let op = d.op;
+    Traits {
+        length: form_length_of(d.form),
+        way: Way::Direct(d.offset),
+        alone: !record::op::is_bl_of(op) & !(d.condition == 14),
+        own: d.condition,
+        opens: Opens::Nothing,
+    }
+}
+
+fn if_then_traits_of(d: IfThenFields) -> Traits
+    ensures { λ t. ⌜ t ≡ traits (IfThen d) ⌝ }
+{
+    Traits {
+        length: form_length_of(d.form),
+        way: Way::Next,
+        alone: true,
+        own: 14,
+        opens: Opens::Block(d.condition, d.count, d.elses),
+    }
+}
+
+fn lone_of(test: bool, form: Form, way: Way) -> Traits
+    ensures { λ t. ⌜ t ≡ lone test form way ⌝ }
+{
+    Traits {
+        length: form_length_of(form),
+        way,
+        alone: test,
+        own: 14,
+        opens: Opens::Nothing,
+    }
+}
+
+fn going_of(form: Form, way: Way) -> Traits
+    ensures { λ t. ⌜ t ≡ going form way ⌝ }
+{
+    lone_of(false, form, way)
+}
+
+fn passing_of(form: Form) -> Traits
+    ensures { λ t. ⌜ t ≡ passing form ⌝ }
+{
+    lone_of(false, form, Way::Next)
+}
+
+fn form_length_of(form: Form) -> u32
+    ensures { λ n. ⌜ n ≡ form-length form ⌝ }
+{
+    if form.wide { 4 } else { 2 }
 }
 
 fn to_pc_of(op: DataOp, rd: u8) -> bool
@@ -108,6 +158,18 @@ fn taken_if_of(test: bool) -> Way
     ensures { λ t. ⌜ t ≡ taken-if test ⌝ }
 {
     if test { Way::Taken } else { Way::Next }
+}
+
+pub fn machine_length_of(r: Record) -> u32
+    ensures { λ n. ⌜ n ≡ machine-length r ⌝ }
+{
+    traits_of(r).length
+}
+
+pub fn way_of(r: Record) -> Way
+    ensures { λ t. ⌜ t ≡ way r ⌝ }
+{
+    traits_of(r).way
 }
 
 // The target of a direct branch that stands at an address; 0 of any other record.
@@ -131,72 +193,22 @@ pub fn leaves_of(w: Way) -> bool
     }
 }
 
-fn alone_of(r: Record) -> bool
-    ensures { λ t. ⌜ t ≡ alone r ⌝ }
-{
-    match r {
-        Record::ShiftedRegister(_) => false,
-        Record::Constant(_) => false,
-        Record::RegisterShift(_) => false,
-        Record::AddNumber(_) => false,
-        Record::MoveNumber(_) => false,
-        Record::Turn(_) => false,
-        Record::Multiply(d) => {
-            let op = d.op;
-            record::op::is_mul_of(op) & d.form.s
-        },
-        Record::LongMultiply(_) => false,
-        Record::Divide(_) => false,
-        Record::Saturate(_) => false,
-        Record::BitField(_) => false,
-        Record::Extend(_) => false,
-        Record::Access(_) => false,
-        Record::IndexedAccess(_) => false,
-        Record::DualAccess(_) => false,
-        Record::MultipleAccess(_) => false,
-        Record::Branch(d) => {
-            let op = d.op;
-            !record::op::is_bl_of(op) & !(d.condition == 14)
-        },
-        Record::RegisterBranch(_) => false,
-        Record::CompareBranch(_) => true,
-        Record::IfThen(_) => true,
-        Record::Nop(_) => false,
-    }
-}
-
 // May the record not stand where so many conditions wait?
 pub fn is_misplaced(r: Record, waiting: u32) -> bool
     ensures { λ t. ⌜ t ≡ misplaced r waiting ⌝ }
 {
-    alone_of(r) & (1 <= waiting) | leaves_of(way_of(r)) & (2 <= waiting)
+    let t = traits_of(r);
+    let way = t.way;
+    t.alone & (1 <= waiting) | leaves_of(way) & (2 <= waiting)
 }
 
 pub fn waiting_after(r: Record, w: Waiting) -> Waiting
     ensures { λ t. ⌜ t ≡ after r w ⌝ }
 {
-    match r {
-        Record::ShiftedRegister(_) => w.drop_first(),
-        Record::Constant(_) => w.drop_first(),
-        Record::RegisterShift(_) => w.drop_first(),
-        Record::AddNumber(_) => w.drop_first(),
-        Record::MoveNumber(_) => w.drop_first(),
-        Record::Turn(_) => w.drop_first(),
-        Record::Multiply(_) => w.drop_first(),
-        Record::LongMultiply(_) => w.drop_first(),
-        Record::Divide(_) => w.drop_first(),
-        Record::Saturate(_) => w.drop_first(),
-        Record::BitField(_) => w.drop_first(),
-        Record::Extend(_) => w.drop_first(),
-        Record::Access(_) => w.drop_first(),
-        Record::IndexedAccess(_) => w.drop_first(),
-        Record::DualAccess(_) => w.drop_first(),
-        Record::MultipleAccess(_) => w.drop_first(),
-        Record::Branch(_) => w.drop_first(),
-        Record::RegisterBranch(_) => w.drop_first(),
-        Record::CompareBranch(_) => w.drop_first(),
-        Record::IfThen(d) => Waiting::block_of(d.condition, d.count, d.elses),
-        Record::Nop(_) => w.drop_first(),
+    let opens = traits_of(r).opens;
+    match opens {
+        Opens::Nothing => w.drop_first(),
+        Opens::Block(condition, count, elses) => Waiting::block_of(condition, count, elses),
     }
 }
 
@@ -204,27 +216,5 @@ pub fn waiting_after(r: Record, w: Waiting) -> Waiting
 pub fn own_condition_of(r: Record) -> u8
     ensures { λ t. ⌜ t ≡ own-condition r ⌝ }
 {
-    match r {
-        Record::ShiftedRegister(_) => 14,
-        Record::Constant(_) => 14,
-        Record::RegisterShift(_) => 14,
-        Record::AddNumber(_) => 14,
-        Record::MoveNumber(_) => 14,
-        Record::Turn(_) => 14,
-        Record::Multiply(_) => 14,
-        Record::LongMultiply(_) => 14,
-        Record::Divide(_) => 14,
-        Record::Saturate(_) => 14,
-        Record::BitField(_) => 14,
-        Record::Extend(_) => 14,
-        Record::Access(_) => 14,
-        Record::IndexedAccess(_) => 14,
-        Record::DualAccess(_) => 14,
-        Record::MultipleAccess(_) => 14,
-        Record::Branch(d) => d.condition,
-        Record::RegisterBranch(_) => 14,
-        Record::CompareBranch(_) => 14,
-        Record::IfThen(_) => 14,
-        Record::Nop(_) => 14,
-    }
+    traits_of(r).own
 }

@@ -15,7 +15,7 @@ use Rattle.record.specs.declared.Record.{Record}
 use Rattle.record.specs.declared.Record.the-variants.{IfThen}
 use Rattle.fields.specs.Fields.{well-formed, elses-fit}
 use Rattle.restricted.specs.Restricted.{allowed}
-use Rattle.flow.specs.Flow.{after, alone, leaves, way, misplaced}
+use Rattle.flow.specs.Flow.{traits, after, leaves, way, misplaced}
 use Rattle.flow.proofs.Laws.{after-holds}
 use Rattle.reading.proofs.Places.{ahead}
 use Rattle.judge.proofs.Laws.{not-refused}
@@ -72,5 +72,5 @@ module _ (listing : List ℕ) (base : ℕ) (p : Point) (o : On listing base p) w
   leaves-last r q e l =
       let n = waiting-count (p .waiting) in
       let spot = not-refused r n (onto listing p r q e .stands) .1 in
-      let two = neither (alone r && leb 1 n) (leaves (way r) && leb 2 n) spot .1 in
+      let two = neither (traits r .alone && leb 1 n) (leaves (way r) && leb 2 n) spot .1 in
       one-waits (p .waiting) on-good (omega (arith, leb-false 2 n (rw l at two)))

@@ -10,7 +10,8 @@ use lib.ListN.{length}
 use Rattle.word.specs.Choice.{if_then_else_}
 use Rattle.waiting.specs.Waiting.{waiting-count}
 use Rattle.record.specs.declared.Record.{Record}
-use Rattle.flow.specs.Flow.{wide, machine-length}
+use Rattle.flow.specs.Flow.{machine-length}
+use Rattle.flow.proofs.Laws.{machine-bytes}
 use Rattle.reading.specs.declared.Place.{Place}
 use Rattle.reading.specs.declared.ReadAt.{ReadAt}
 use Rattle.reading.specs.declared.ReadAt.the-variants.{Found, Nothing}
@@ -74,14 +75,6 @@ module _ (listing : List ℕ) (p : Point) where
       go : (t : Bool) → _≡_ {A = Met} (if t then AtEnd else judged-at (read-at listing (p .place .0)) p) (Refusal number) → number ≡ 0 → ⊥
       go true e z = let y : _≡_ {A = ℕ} 0 1 = cc in omega arith
       go false e z = judged-refused (read-at listing (p .place .0)) number e z
-
-two-or-four : (t : Bool) → let n : ℕ = if t then 4 else 2 in (2 ≤ n) × (n ≤ 4) × (n % 2 ≡ 0)
-two-or-four true = (omega arith, omega arith, refl)
-two-or-four false = (omega arith, omega arith, refl)
-
-pub machine-bytes : (r : Record) → (2 ≤ machine-length r) × (machine-length r ≤ 4) × (machine-length r % 2 ≡ 0)
-unfolding machine-length
-machine-bytes r = two-or-four (wide r)
 
 -- the places and addresses that the walk can come to: a record of 2 listing bytes has at most 4 machine bytes
 pub record Within (listing : List ℕ) (base : ℕ) (p : Point) : Type 0 where

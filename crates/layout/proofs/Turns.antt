@@ -10,6 +10,7 @@ use lib.Dec.{eqb}
 use Rattle.record.specs.declared.Record.{Record}
 use Rattle.flow.specs.declared.Way.{Way}
 use Rattle.flow.specs.Flow.{way}
+use Rattle.flow.proofs.Laws.{machine-bytes}
 use Rattle.layout.specs.declared.Point.{Point}
 use Rattle.layout.specs.declared.Seen.{Seen}
 use Rattle.layout.specs.declared.Seen.the-variants.{Goes, Ends, Stops}
@@ -17,7 +18,7 @@ use Rattle.layout.specs.declared.Sought.{Sought}
 use Rattle.layout.specs.declared.Sought.the-variants.{At, Nowhere}
 use Rattle.layout.specs.Layout.{Met, Onward, AtEnd, Refusal, meets, followed, walk, sought}
 use Rattle.layout.specs.Seen.{kept, seen}
-use Rattle.layout.proofs.Points.{machine-bytes, next-address, rises, walk-from, walk-on, walk-end, walk-refused, walk-none}
+use Rattle.layout.proofs.Points.{next-address, rises, walk-from, walk-on, walk-end, walk-refused, walk-none}
 
 kept-whole : (p : Point) → p .address .0 < 2 ^ 64 → kept p ≡ p
 unfolding kept

@@ -22,7 +22,7 @@ use Rattle.record.specs.declared.IfThenFields.{IfThenFields}
 use Rattle.record.specs.declared.Record.{Record}
 use Rattle.record.specs.declared.Record.the-variants.{IfThen}
 use Rattle.restricted.specs.Restricted.{allowed}
-use Rattle.flow.specs.Flow.{machine-length, way, leaves, alone, misplaced, after, own-condition}
+use Rattle.flow.specs.Flow.{traits, machine-length, way, leaves, misplaced, after, own-condition}
 use Rattle.flow.proofs.Laws.{after-holds}
 use Rattle.reading.specs.declared.Read.the-variants.{Is}
 use Rattle.reading.specs.Reading.{read-one}
@@ -42,7 +42,7 @@ unfolding passes
 always f = refl
 
 if-then-passes : (m : Machine) (d : IfThenFields) → misplaced (IfThen d) (waiting-count (m .waiting)) ≡ false → condition-passes m (IfThen d) ≡ true
-unfolding misplaced alone condition-passes ruling own-condition
+unfolding misplaced traits condition-passes ruling own-condition
 if-then-passes m d h =
     let n = waiting-count (m .waiting) in
     let some = neither (leb 1 n) (leaves (way (IfThen d)) && leb 2 n) h .0 in

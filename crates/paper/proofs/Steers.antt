@@ -15,7 +15,7 @@ use Rattle.record.specs.declared.ShiftedRegisterFields.{ShiftedRegisterFields}
 use Rattle.record.specs.declared.Record.{Record}
 use Rattle.record.specs.declared.Record.the-variants.{ShiftedRegister, Constant, RegisterShift, AddNumber, MoveNumber, Turn, Multiply, LongMultiply, Divide, Saturate, BitField, Extend, Access, IndexedAccess, DualAccess, MultipleAccess, Branch, RegisterBranch, CompareBranch, IfThen, Nop}
 use Rattle.restricted.specs.Restricted.{allowed, plain, first-operand, transferred}
-use Rattle.flow.specs.Flow.{way, target, to-pc, taken-if}
+use Rattle.flow.specs.Flow.{traits, way, target, to-pc, taken-if}
 use Rattle.flow.specs.declared.Way.{Way}
 use Rattle.flow.specs.declared.Way.the-variants.{Next, Direct, Taken}
 use Rattle.machine.specs.declared.Machine.{Machine}
@@ -89,7 +89,7 @@ few list l =
     not (eqb list 0) && not (member list 13) && not (member list 15 && not l) && not (member list 14 && member list 15)
 
 pub steered : (m : Machine) (r : Record) → allowed r ≡ true → Each m (Steers m (way r)) r
-unfolding allowed way direct-target
+unfolding allowed way traits direct-target
 steered m (ShiftedRegister d) h = λ l v. taken-or m (to-pc (d .op) (d .rd)) (d .rd) v (shifted-off d h)
 steered m (Constant d) h = λ l v. inl (λ e. false≢true (rw e at (second (first-operand (d .op) (d .rn)) _ h)))
 steered m (RegisterShift d) h = λ v. inl (plain-off (d .rd) (first _ _ (first _ _ h)))

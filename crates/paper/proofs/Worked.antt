@@ -15,7 +15,7 @@ use Rattle.little.specs.Little.{little}
 use Rattle.waiting.specs.Waiting.{waiting-count, dropped, inverse, block, same, good-waiting}
 use Rattle.fields.specs.Fields.{well-formed}
 use Rattle.restricted.specs.Restricted.{allowed}
-use Rattle.flow.specs.Flow.{wide, machine-length, way, target, leaves, alone, misplaced, after, own-condition}
+use Rattle.flow.specs.Flow.{traits, machine-length, way, target, leaves, misplaced, opened, after, own-condition}
 use Rattle.kinds.specs.Kinds.{listing-length, names, form, shifted-register, constant as kinds-constant, register-shift, add-number, move-number, turn, multiply, long-multiply, divide, saturate, bit-field, extend, access, indexed-access, dual-access, multiple-access, branch, register-branch, compare-branch, if-then, record-of}
 use Rattle.reading.specs.Reading.{coded, named, read-one, found-at, read-at}
 use Rattle.judge.specs.Judge.{refusal, judged}
@@ -31,5 +31,5 @@ use Rattle.machine.specs.Step.{effect, obeyed, considered, stepped}
 use Rattle.paper.specs.Paper.{Worked, table}
 
 pub worked : Worked table
-unfolding signed-in wrapped AddWithCarry SubtractWithCarry LSL LSR ASR rotated ROR RRX shifted-byte repeated-byte constant constant-carry UBFX SBFX BFI CLZ REV REV16 REVSH RBIT MUL MLA MLS UMULL UMLAL SMULL SMLAL UDIV SDIV SSAT USAT cleared linked moved members-below little waiting-count dropped inverse block same good-waiting well-formed allowed wide machine-length way target leaves alone misplaced after own-condition listing-length names form shifted-register kinds-constant register-shift add-number move-number turn multiply long-multiply divide saturate bit-field extend access indexed-access dual-access multiple-access branch register-branch compare-branch if-then record-of coded named read-one found-at read-at refusal judged passes signs all-four saturating fits inside byte-at loaded put-byte stored shifter constant-operand operated added placed-number turned multiplied multiplied-long divided saturation saturated fielded extended width load-value after-store reached access-refusal list-size lowest new-base list-stored storing lands based arriving access-made access-done machine-access machine-indexed-access dual-made machine-dual-access list-loaded list-arriving multiple-made machine-multiple-access linking direct-target machine-branch machine-register-branch branches machine-compare-branch flagged resulting data-done machine-shifted-register constant-data register-amount machine-register-shift machine-add-number machine-move-number turn-done multiply-done machine-long-multiply divide-done saturate-done machine-bit-field extend-done fresh held operand-value base-value kept written with-flags with-waiting good ruling condition-passes advanced skipped onward refused done steady settled effect obeyed considered stepped
+unfolding signed-in wrapped AddWithCarry SubtractWithCarry LSL LSR ASR rotated ROR RRX shifted-byte repeated-byte constant constant-carry UBFX SBFX BFI CLZ REV REV16 REVSH RBIT MUL MLA MLS UMULL UMLAL SMULL SMLAL UDIV SDIV SSAT USAT cleared linked moved members-below little waiting-count dropped inverse block same good-waiting well-formed allowed traits machine-length way target leaves misplaced opened after own-condition listing-length names form shifted-register kinds-constant register-shift add-number move-number turn multiply long-multiply divide saturate bit-field extend access indexed-access dual-access multiple-access branch register-branch compare-branch if-then record-of coded named read-one found-at read-at refusal judged passes signs all-four saturating fits inside byte-at loaded put-byte stored shifter constant-operand operated added placed-number turned multiplied multiplied-long divided saturation saturated fielded extended width load-value after-store reached access-refusal list-size lowest new-base list-stored storing lands based arriving access-made access-done machine-access machine-indexed-access dual-made machine-dual-access list-loaded list-arriving multiple-made machine-multiple-access linking direct-target machine-branch machine-register-branch branches machine-compare-branch flagged resulting data-done machine-shifted-register constant-data register-amount machine-register-shift machine-add-number machine-move-number turn-done multiply-done machine-long-multiply divide-done saturate-done machine-bit-field extend-done fresh held operand-value base-value kept written with-flags with-waiting good ruling condition-passes advanced skipped onward refused done steady settled effect obeyed considered stepped
 worked = (refl, (refl, (refl, (refl, (refl, (refl, (refl, (refl, (refl, (refl, (refl, tt)))))))))))
