@@ -131,6 +131,9 @@ part == "code" && FNR == 1 {
     module = crate module
     holder = note = ""
 }
+part == "code" && /^pub mod / {
+    opened[module "::" substr($3, 1, length($3) - 1)]
+}
 part == "code" && /^ghost use Rattle·.*specs\.[A-Z]/ { import($0, FILENAME) }
 part == "code" && /^\/\/ / {
     note = (note == "" ? "" : note " ") substr($0, 4)
@@ -171,6 +174,7 @@ function take_contract(contract,    name, count, word, i, own, cited) {
     sub(/[^A-Za-z0-9_].*/, "", name)
     name = module holder "::" name
     contracts[name] = contract
+    if (contract ~ /^pub /) module_of[name] = module
     take_arguments(contract, own)
     if (!sub(/^.*ensures \{ /, "", contract)) return
     count = words_in(contract, word)
@@ -402,9 +406,18 @@ function with_kind(text) {
     return text
 }
 
-# the functions whose promise names a definition, and the theorem that states it
+# Can another crate call it? Not where a module is not `pub mod` all the way.
+function is_public(name,    place) {
+    if (!(name in module_of)) return 0
+    for (place = module_of[name]; place ~ /::/; sub(/::[^:]*$/, "", place)) if (!(place in opened)) return 0
+    return 1
+}
+
+# the public functions whose promise names a definition, and the theorem that states it
 function cited_by(id,    note, key, name, crate, count, piece, i) {
-    note = promised[id]
+    note = ""
+    count = split(promised[id], piece, ", ")
+    for (i = 2; i <= count; i++) if (is_public(piece[i])) note = note ", " piece[i]
     key = substr(id, 1, index(id, SUBSEP) - 1)
     name = substr(id, index(id, SUBSEP) + 1)
     crate = substr(key, 1, index(key, "/") - 1)

@@ -14,10 +14,12 @@ some-below (suc n) test = test n || some-below n test
 unfoldable pub shifted-byte : ℕ → Bool
 shifted-byte x = some-below 25 (λ amount. eqb (x % 2 ^ amount) 0 && ltb (x / 2 ^ amount) (2 ^ 8))
 
+-- "00XY00XY, XY00XY00 or XYXYXYXY"
 unfoldable pub repeated-byte : ℕ → Bool
 repeated-byte x =
     eqb x (x % 2 ^ 8 * 0x0001_0001) || (eqb x (x / 2 ^ 8 % 2 ^ 8 * 0x0100_0100) || eqb x (x % 2 ^ 8 * 0x0101_0101))
 
+-- either of them
 unfoldable pub constant : ℕ → Bool
 constant x = shifted-byte x || repeated-byte x
 

@@ -8,7 +8,7 @@ use native.Mathlib.Omega.{arith}
 use borrow.Author.Tests.{eq-eqb, ne-eqb}
 use Rattle.word.proofs.Cases.{cases}
 use Rattle.record.specs.declared.Record.{Record}
-use Rattle.memory.specs.Memory.{fits}
+use Rattle.setup.specs.Setup.{fits}
 use Rattle.layout.specs.declared.Point.{Point}
 use Rattle.layout.specs.declared.AtAddress.the-variants.{Stray}
 use Rattle.layout.specs.Layout.{start}

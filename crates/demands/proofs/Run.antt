@@ -11,7 +11,7 @@ use lib.ListN.{length}
 use Rattle.word.proofs.Cases.{cases, yes-or-no}
 use Rattle.word.proofs.Sole.{one-outcome}
 use Rattle.reading.specs.Reading.{part}
-use Rattle.memory.specs.Memory.{fits}
+use Rattle.setup.specs.Setup.{fits}
 use Rattle.listing.specs.declared.Checked.{Checked}
 use Rattle.listing.specs.Check.{checked}
 use Rattle.machine.specs.Machine.{good}

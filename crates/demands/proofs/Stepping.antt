@@ -18,8 +18,8 @@ use Rattle.flow.specs.Flow.{machine-length, way, target, leaves, after}
 use Rattle.flow.proofs.Laws.{direct-drops}
 use Rattle.reading.specs.Reading.{part}
 use Rattle.reading.proofs.Places.{ahead}
-use Rattle.memory.specs.Memory.{fits}
-use Rattle.memory.proofs.Laws.{fits-as-long}
+use Rattle.setup.specs.Setup.{fits}
+use Rattle.setup.proofs.Laws.{fits-as-long}
 use Rattle.layout.specs.declared.Point.{Point}
 use Rattle.layout.specs.declared.AtAddress.the-variants.{Stands, Stray}
 use Rattle.layout.proofs.Points.{onto, next-address}

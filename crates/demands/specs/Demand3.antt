@@ -12,7 +12,7 @@ use Rattle.waiting.specs.Waiting.{nothing}
 use Rattle.record.specs.declared.Record.{Record}
 use Rattle.flow.specs.declared.Way.the-variants.{Taken}
 use Rattle.flow.specs.Flow.{way}
-use Rattle.memory.specs.Memory.{fits}
+use Rattle.setup.specs.Setup.{fits}
 use Rattle.layout.specs.declared.Point.{Point}
 use Rattle.listing.specs.Check.{checked}
 use Rattle.machine.specs.Machine.{PC, held, good, condition-passes}

@@ -9,7 +9,7 @@ use Rattle.word.specs.Sole.{Sole}
 use Rattle.waiting.specs.Waiting.{nothing}
 use Rattle.record.specs.declared.Record.{Record}
 use Rattle.reading.specs.Reading.{part}
-use Rattle.memory.specs.Memory.{fits}
+use Rattle.setup.specs.Setup.{fits}
 use Rattle.layout.specs.declared.Point.{Point}
 use Rattle.layout.specs.declared.AtAddress.the-variants.{Stands, End, Stray}
 use Rattle.layout.specs.Layout.{at-address}

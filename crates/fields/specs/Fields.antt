@@ -35,7 +35,7 @@ use Rattle.record.specs.declared.BranchFields.{BranchFields}
 use Rattle.record.specs.declared.CompareBranchFields.{CompareBranchFields}
 use Rattle.record.specs.declared.IfThenFields.{IfThenFields}
 use Rattle.record.specs.declared.Record.{Record}
-use Rattle.record.specs.declared.Record.the-variants.{ShiftedRegister, Constant, RegisterShift, AddNumber, MoveNumber, Turn, Multiply, LongMultiply, Divide, Saturate, BitField, Extend, Access, IndexedAccess, DualAccess, MultipleAccess, Branch, RegisterBranch, CompareBranch, IfThen, Nop}
+use Rattle.record.specs.declared.Record.the-variants.{ShiftedRegister, Constant, RegisterShift, AddNumber, MoveNumber, Unary, Multiply, LongMultiply, Divide, Saturate, BitField, Extend, Access, IndexedAccess, DualAccess, MultipleAccess, Branch, RegisterBranch, CompareBranch, IfThen, Nop}
 
 -- "registers 0 to 15"
 abbrev pub register : ℕ → Bool
@@ -114,73 +114,73 @@ branch-reach Bl wide condition z = eqb condition 14 && wide && within (negℤ (p
 abbrev pub elses-fit : ℕ → ℕ → Bool
 elses-fit elses count = ltb elses (2 ^ (count - 1))
 
-abbrev pub shifted-register : ShiftedRegisterFields → Bool
-shifted-register d = data-operands (d .op) (d .form) (d .rd) (d .rn) && register (d .rm) && shift-amount (d .shift) (d .amount)
+abbrev pub shifted-register-formed : ShiftedRegisterFields → Bool
+shifted-register-formed d = data-operands (d .op) (d .form) (d .rd) (d .rn) && register (d .rm) && shift-amount (d .shift) (d .amount)
 
-abbrev pub constant-operand : ConstantFields → Bool
-constant-operand d = data-operands (d .op) (d .form) (d .rd) (d .rn) && constant (d .constant)
+abbrev pub constant-formed : ConstantFields → Bool
+constant-formed d = data-operands (d .op) (d .form) (d .rd) (d .rn) && constant (d .constant)
 
-abbrev pub register-shift : RegisterShiftFields → Bool
-register-shift d = register (d .rd) && register (d .rn) && register (d .rs) && turns (d .shift)
+abbrev pub register-shift-formed : RegisterShiftFields → Bool
+register-shift-formed d = register (d .rd) && register (d .rn) && register (d .rs) && turns (d .shift)
 
-abbrev pub multiply : MultiplyFields → Bool
-multiply d =
+abbrev pub multiply-formed : MultiplyFields → Bool
+multiply-formed d =
     register (d .rd) && register (d .rn) && register (d .rm) && register (d .ra) && multiply-accumulates (d .op) (d .form .s) (d .ra)
 
-abbrev pub saturate : SaturateFields → Bool
-saturate d =
+abbrev pub saturate-formed : SaturateFields → Bool
+saturate-formed d =
     not (d .form .s) && register (d .rd) && register (d .rm) && saturated-bits (d .op) (d .bits) && saturated-shift (d .shift) (d .amount)
 
-abbrev pub bit-field : BitFieldFields → Bool
-bit-field d =
+abbrev pub bit-field-formed : BitFieldFields → Bool
+bit-field-formed d =
     not (d .form .s) && register (d .rd) && register (d .rn) && leb 1 (d .width) && leb (d .lsb + d .width) 32
     && field-source (d .op) (d .rn)
 
-abbrev pub extend : ExtendFields → Bool
-extend d =
+abbrev pub extend-formed : ExtendFields → Bool
+extend-formed d =
     not (d .form .s) && register (d .rd) && register (d .rm)
     && (eqb (d .rotation) 0 || eqb (d .rotation) 8 || eqb (d .rotation) 16 || eqb (d .rotation) 24)
 
-abbrev pub access : AccessFields → Bool
-access d = not (d .form .s) && register (d .rt) && register (d .rn) && access-offset (d .mode) (d .rn) (d .offset)
+abbrev pub access-formed : AccessFields → Bool
+access-formed d = not (d .form .s) && register (d .rt) && register (d .rn) && access-offset (d .mode) (d .rn) (d .offset)
 
-abbrev pub dual-access : DualAccessFields → Bool
-dual-access d = not (d .form .s) && register (d .rt) && register (d .rt2) && register (d .rn) && dual-offset (d .offset)
+abbrev pub dual-access-formed : DualAccessFields → Bool
+dual-access-formed d = not (d .form .s) && register (d .rt) && register (d .rt2) && register (d .rn) && dual-offset (d .offset)
 
-abbrev pub branch : BranchFields → Bool
-branch d = not (d .form .s) && eqb (wrapped 1 (d .offset)) 0 && branch-reach (d .op) (d .form .wide) (d .condition) (d .offset)
+abbrev pub branch-formed : BranchFields → Bool
+branch-formed d = not (d .form .s) && eqb (wrapped 1 (d .offset)) 0 && branch-reach (d .op) (d .form .wide) (d .condition) (d .offset)
 
-abbrev pub compare-branch : CompareBranchFields → Bool
-compare-branch d =
+abbrev pub compare-branch-formed : CompareBranchFields → Bool
+compare-branch-formed d =
     not (d .form .s) && not (d .form .wide) && leb (d .rn) 7 && leb (d .offset) 126 && eqb (d .offset % 2) 0
 
-abbrev pub if-then : IfThenFields → Bool
-if-then d =
+abbrev pub if-then-formed : IfThenFields → Bool
+if-then-formed d =
     not (d .form .s) && not (d .form .wide) && leb (d .condition) 14 && leb 1 (d .count) && leb (d .count) 4
     && elses-fit (d .elses) (d .count)
 
 -- "field not as above": number 2 is given for any other
 unfoldable pub well-formed : Record → Bool
-well-formed (ShiftedRegister d) = shifted-register d
-well-formed (Constant d) = constant-operand d
-well-formed (RegisterShift d) = register-shift d
+well-formed (ShiftedRegister d) = shifted-register-formed d
+well-formed (Constant d) = constant-formed d
+well-formed (RegisterShift d) = register-shift-formed d
 well-formed (AddNumber d) = not (d .form .s) && register (d .rd) && register (d .rn) && leb (d .number) 4095
 well-formed (MoveNumber d) = not (d .form .s) && register (d .rd)
-well-formed (Turn d) = not (d .form .s) && register (d .rd) && register (d .rm)
-well-formed (Multiply d) = multiply d
+well-formed (Unary d) = not (d .form .s) && register (d .rd) && register (d .rm)
+well-formed (Multiply d) = multiply-formed d
 well-formed (LongMultiply d) =
     not (d .form .s) && register (d .low) && register (d .high) && register (d .rn) && register (d .rm)
 well-formed (Divide d) = not (d .form .s) && register (d .rd) && register (d .rn) && register (d .rm)
-well-formed (Saturate d) = saturate d
-well-formed (BitField d) = bit-field d
-well-formed (Extend d) = extend d
-well-formed (Access d) = access d
+well-formed (Saturate d) = saturate-formed d
+well-formed (BitField d) = bit-field-formed d
+well-formed (Extend d) = extend-formed d
+well-formed (Access d) = access-formed d
 well-formed (IndexedAccess d) =
     not (d .form .s) && register (d .rt) && register (d .rn) && register (d .rm) && leb (d .amount) 3
-well-formed (DualAccess d) = dual-access d
+well-formed (DualAccess d) = dual-access-formed d
 well-formed (MultipleAccess d) = not (d .form .s) && register (d .rn)
-well-formed (Branch d) = branch d
+well-formed (Branch d) = branch-formed d
 well-formed (RegisterBranch d) = not (d .form .s) && not (d .form .wide) && register (d .rm)
-well-formed (CompareBranch d) = compare-branch d
-well-formed (IfThen d) = if-then d
+well-formed (CompareBranch d) = compare-branch-formed d
+well-formed (IfThen d) = if-then-formed d
 well-formed (Nop form) = not (form .s)

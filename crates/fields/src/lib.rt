@@ -15,7 +15,7 @@ pub fn is_well_formed(r: Record) -> bool
         Record::RegisterShift(d) => parts::register_shift_of(d),
         Record::AddNumber(d) => !d.form.s & (d.rd < 16) & (d.rn < 16) & (d.number <= 4095),
         Record::MoveNumber(d) => !d.form.s & (d.rd < 16),
-        Record::Turn(d) => !d.form.s & (d.rd < 16) & (d.rm < 16),
+        Record::Unary(d) => !d.form.s & (d.rd < 16) & (d.rm < 16),
         Record::Multiply(d) => parts::multiply_of(d),
         Record::LongMultiply(d) => !d.form.s
             & (d.low < 16)

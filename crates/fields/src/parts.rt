@@ -2,7 +2,7 @@
 
 ghost use mathlib.Core.Path.{_≡_};
 ghost use Rattle.fields.specs.Fields.{data-operands, elses-fit, shift-amount, turns, multiply-accumulates, saturated-bits, saturated-shift, field-source, access-offset, dual-offset, branch-reach};
-ghost use Rattle.fields.specs.Fields.{shifted-register, constant-operand, register-shift, multiply, saturate, bit-field, extend, access, dual-access, branch, compare-branch, if-then};
+ghost use Rattle.fields.specs.Fields.{shifted-register-formed, constant-formed, register-shift-formed, multiply-formed, saturate-formed, bit-field-formed, extend-formed, access-formed, dual-access-formed, branch-formed, compare-branch-formed, if-then-formed};
 use record::AccessFields;
 use record::BitFieldFields;
 use record::BranchFields;
@@ -25,7 +25,7 @@ use record::op::SaturateOp;
 use record::op::Shift;
 
 pub fn shifted_register_of(d: ShiftedRegisterFields) -> bool
-    ensures { λ r. ⌜ r ≡ shifted-register d ⌝ }
+    ensures { λ r. ⌜ r ≡ shifted-register-formed d ⌝ }
 {
     let op = d.op;
     let form = d.form;
@@ -34,7 +34,7 @@ pub fn shifted_register_of(d: ShiftedRegisterFields) -> bool
 }
 
 pub fn constant_of(d: ConstantFields) -> bool
-    ensures { λ r. ⌜ r ≡ constant-operand d ⌝ }
+    ensures { λ r. ⌜ r ≡ constant-formed d ⌝ }
 {
     let op = d.op;
     let form = d.form;
@@ -64,7 +64,7 @@ fn amount_of(shift: Shift, amount: u8) -> bool
 }
 
 pub fn register_shift_of(d: RegisterShiftFields) -> bool
-    ensures { λ r. ⌜ r ≡ register-shift d ⌝ }
+    ensures { λ r. ⌜ r ≡ register-shift-formed d ⌝ }
 {
     let shift = d.shift;
     (d.rd < 16) & (d.rn < 16) & (d.rs < 16) & turns_of(shift)
@@ -83,7 +83,7 @@ fn turns_of(shift: Shift) -> bool
 }
 
 pub fn multiply_of(d: MultiplyFields) -> bool
-    ensures { λ r. ⌜ r ≡ multiply d ⌝ }
+    ensures { λ r. ⌜ r ≡ multiply-formed d ⌝ }
 {
     let op = d.op;
     (d.rd < 16) & (d.rn < 16) & (d.rm < 16) & (d.ra < 16) & accumulates_of(op, d.form.s, d.ra)
@@ -100,7 +100,7 @@ fn accumulates_of(op: MultiplyOp, s: bool, ra: u8) -> bool
 }
 
 pub fn saturate_of(d: SaturateFields) -> bool
-    ensures { λ r. ⌜ r ≡ saturate d ⌝ }
+    ensures { λ r. ⌜ r ≡ saturate-formed d ⌝ }
 {
     let op = d.op;
     let shift = d.shift;
@@ -133,7 +133,7 @@ fn saturated_shift_of(shift: Shift, amount: u8) -> bool
 }
 
 pub fn bit_field_of(d: BitFieldFields) -> bool
-    ensures { λ r. ⌜ r ≡ bit-field d ⌝ }
+    ensures { λ r. ⌜ r ≡ bit-field-formed d ⌝ }
 {
     let op = d.op;
     let end = d.lsb as u32 + d.width as u32;
@@ -152,7 +152,7 @@ fn field_source_of(op: FieldOp, rn: u8) -> bool
 }
 
 pub fn extend_of(d: ExtendFields) -> bool
-    ensures { λ r. ⌜ r ≡ extend d ⌝ }
+    ensures { λ r. ⌜ r ≡ extend-formed d ⌝ }
 {
     let turn = d.rotation;
     !d.form.s
@@ -162,7 +162,7 @@ pub fn extend_of(d: ExtendFields) -> bool
 }
 
 pub fn access_of(d: AccessFields) -> bool
-    ensures { λ r. ⌜ r ≡ access d ⌝ }
+    ensures { λ r. ⌜ r ≡ access-formed d ⌝ }
 {
     let mode = d.mode;
     !d.form.s & (d.rt < 16) & (d.rn < 16) & access_offset_of(mode, d.rn, d.offset)
@@ -185,7 +185,7 @@ fn access_offset_of(mode: Mode, rn: u8, offset: i16) -> bool
 }
 
 pub fn dual_access_of(d: DualAccessFields) -> bool
-    ensures { λ r. ⌜ r ≡ dual-access d ⌝ }
+    ensures { λ r. ⌜ r ≡ dual-access-formed d ⌝ }
 {
     !d.form.s & (d.rt < 16) & (d.rt2 < 16) & (d.rn < 16) & dual_offset_of(d.offset)
 }
@@ -197,7 +197,7 @@ fn dual_offset_of(offset: i16) -> bool
 }
 
 pub fn branch_of(d: BranchFields) -> bool
-    ensures { λ r. ⌜ r ≡ branch d ⌝ }
+    ensures { λ r. ⌜ r ≡ branch-formed d ⌝ }
 {
     let op = d.op;
     let offset = d.offset;
@@ -222,13 +222,13 @@ fn reach_of(op: BranchOp, wide: bool, condition: u8, offset: i32) -> bool
 }
 
 pub fn compare_branch_of(d: CompareBranchFields) -> bool
-    ensures { λ r. ⌜ r ≡ compare-branch d ⌝ }
+    ensures { λ r. ⌜ r ≡ compare-branch-formed d ⌝ }
 {
     !d.form.s & !d.form.wide & (d.rn <= 7) & (d.offset <= 126) & (d.offset % 2 == 0)
 }
 
 pub fn if_then_of(d: IfThenFields) -> bool
-    ensures { λ r. ⌜ r ≡ if-then d ⌝ }
+    ensures { λ r. ⌜ r ≡ if-then-formed d ⌝ }
 {
     let count = d.count;
     !d.form.s

@@ -10,7 +10,7 @@ use Rattle.word.proofs.Cases.{cases}
 use Rattle.record.specs.declared.Form.{Form}
 use Rattle.record.specs.declared.IfThenFields.{IfThenFields}
 use Rattle.record.specs.declared.Record.{Record}
-use Rattle.record.specs.declared.Record.the-variants.{ShiftedRegister, Constant, RegisterShift, AddNumber, MoveNumber, Turn, Multiply, LongMultiply, Divide, Saturate, BitField, Extend, Access, IndexedAccess, DualAccess, MultipleAccess, Branch, RegisterBranch, CompareBranch, IfThen, Nop}
+use Rattle.record.specs.declared.Record.the-variants.{ShiftedRegister, Constant, RegisterShift, AddNumber, MoveNumber, Unary, Multiply, LongMultiply, Divide, Saturate, BitField, Extend, Access, IndexedAccess, DualAccess, MultipleAccess, Branch, RegisterBranch, CompareBranch, IfThen, Nop}
 use Rattle.waiting.specs.declared.Waiting.{Waiting}
 use Rattle.waiting.specs.Waiting.{block, dropped}
 use Rattle.flow.specs.declared.Way.the-variants.{Next, Direct}
@@ -36,7 +36,7 @@ row (Constant d) = no-block (Constant d) (d .form) refl refl
 row (RegisterShift d) = no-block (RegisterShift d) (d .form) refl refl
 row (AddNumber d) = no-block (AddNumber d) (d .form) refl refl
 row (MoveNumber d) = no-block (MoveNumber d) (d .form) refl refl
-row (Turn d) = no-block (Turn d) (d .form) refl refl
+row (Unary d) = no-block (Unary d) (d .form) refl refl
 row (Multiply d) = no-block (Multiply d) (d .form) refl refl
 row (LongMultiply d) = no-block (LongMultiply d) (d .form) refl refl
 row (Divide d) = no-block (Divide d) (d .form) refl refl

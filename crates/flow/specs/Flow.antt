@@ -10,7 +10,7 @@ use Rattle.record.specs.Op.{data-code, is-bl, is-ldr, is-mul, loads-many}
 use Rattle.record.specs.declared.Form.{Form}
 use Rattle.record.specs.declared.op.DataOp.{DataOp}
 use Rattle.record.specs.declared.Record.{Record}
-use Rattle.record.specs.declared.Record.the-variants.{ShiftedRegister, Constant, RegisterShift, AddNumber, MoveNumber, Turn, Multiply, LongMultiply, Divide, Saturate, BitField, Extend, Access, IndexedAccess, DualAccess, MultipleAccess, Branch, RegisterBranch, CompareBranch, IfThen, Nop}
+use Rattle.record.specs.declared.Record.the-variants.{ShiftedRegister, Constant, RegisterShift, AddNumber, MoveNumber, Unary, Multiply, LongMultiply, Divide, Saturate, BitField, Extend, Access, IndexedAccess, DualAccess, MultipleAccess, Branch, RegisterBranch, CompareBranch, IfThen, Nop}
 use Rattle.waiting.specs.declared.Waiting.{Waiting}
 use Rattle.waiting.specs.Waiting.{block, dropped}
 use Rattle.flow.specs.declared.Traits.{Traits}
@@ -52,7 +52,7 @@ traits (Constant d) = going (d .form) (taken-if (to-pc (d .op) (d .rd)))
 traits (RegisterShift d) = passing (d .form)
 traits (AddNumber d) = passing (d .form)
 traits (MoveNumber d) = passing (d .form)
-traits (Turn d) = passing (d .form)
+traits (Unary d) = passing (d .form)
 traits (Multiply d) = lone (is-mul (d .op) && d .form .s) (d .form) Next
 traits (LongMultiply d) = passing (d .form)
 traits (Divide d) = passing (d .form)

@@ -54,7 +54,7 @@ pub fn traits_of(r: Record) -> Traits
         Record::RegisterShift(d) => passing_of(d.form),
         Record::AddNumber(d) => passing_of(d.form),
         Record::MoveNumber(d) => passing_of(d.form),
-        Record::Turn(d) => passing_of(d.form),
+        Record::Unary(d) => passing_of(d.form),
         Record::Multiply(d) => {
             let op = d.op;
             lone_of(record::op::is_mul_of(op) & d.form.s, d.form, Way::Next)

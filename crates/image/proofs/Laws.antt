@@ -5,14 +5,14 @@ use mathlib.Core.Path.{_≡_}
 use mathlib.Core.List.{List}
 use native.Mathlib.Omega.{arith}
 use lib.ListN.{set}
-use Rattle.little.specs.Little.{little}
+use Rattle.little.specs.Little.{number-at}
 use Rattle.word.specs.Choice.{if_then_else_}
 use Rattle.waiting.specs.declared.Waiting.{Waiting}
 use Rattle.waiting.specs.Waiting.{none, waiting-count}
 use lib.Dec.{eqb}
 use Rattle.image.specs.Image.{words}
 
-pub words-next : (i : ℕ) (image : List ℕ) → set (words i image) i (little 4 image (4 * i)) ≡ words (i + 1) image
+pub words-next : (i : ℕ) (image : List ℕ) → set (words i image) i (number-at 4 image (4 * i)) ≡ words (i + 1) image
 unfolding words
 words-next i image = let s : i + 1 ≡ suc i = omega arith in rw s
 

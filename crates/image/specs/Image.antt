@@ -7,18 +7,18 @@ use lib.Dec.{leb, ltb, eqb}
 use lib.ListN.{length, set, replicate}
 use Rattle.word.specs.Choice.{if_then_else_}
 use Rattle.word.specs.Word.{one-if}
-use Rattle.little.specs.Little.{byte, little}
+use Rattle.little.specs.Little.{byte, number-at}
 use Rattle.flags.specs.declared.Flags.{Flags}
 use Rattle.waiting.specs.declared.Waiting.{Waiting}
 use Rattle.waiting.specs.Waiting.{none, waiting-count}
-use Rattle.memory.specs.declared.Setup.{Setup}
+use Rattle.setup.specs.Setup.{at-base}
 use Rattle.transfer.specs.Transfer.{list-stored}
 use Rattle.machine.specs.declared.Machine.{Machine}
 
 -- the registers below n, out of their words
 unfoldable pub words : ℕ → List ℕ → List ℕ
 words zero image = replicate 16 0
-words (suc i) image = set (words i image) i (little 4 image (4 * i))
+words (suc i) image = set (words i image) i (number-at 4 image (4 * i))
 
 unfoldable pub flags-of : List ℕ → Flags
 flags-of image = record {
@@ -78,5 +78,5 @@ with-waiting-bytes image w =
 -- the image with all of a machine put in; registers as a store of all sixteen from the first byte on
 unfoldable pub image-of : List ℕ → Machine → List ℕ
 image-of image m =
-    let first : Setup = record { base = 0 } in
+    let first = at-base 0 in
     with-waiting-bytes (with-flag-bytes (list-stored 16 first image (m .registers) 0xFFFF 0) (m .flags)) (m .waiting)

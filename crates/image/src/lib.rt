@@ -6,7 +6,7 @@ ghost use Rattle.word.specs.Word.{one-if};
 ghost use Rattle.image.specs.Image.{words, flags-of, flags-fit, condition-at, waiting-of, place-fits, waiting-fits, is-image, machine-of, condition-byte, with-flag-bytes, with-waiting-bytes, image-of};
 use flags::Flags;
 use machine::Machine;
-use memory::Setup;
+use setup::Setup;
 use waiting::Waiting;
 
 pub fn is_image_of(image: &[u8]) -> bool
@@ -108,7 +108,7 @@ pub fn write(image: &mut [u8], m: Machine)
     ensures { λ r. ⌜ now (image .exit) ≡ image-of (now (image .entry)) m ⌝ }
 {
     let registers = m.registers;
-    transfer::store_list(Setup { base: 0 }, image, registers, 0xffff, 0);
+    transfer::store_list(Setup::new(0), image, registers, 0xffff, 0);
     write_flags(image, m.flags);
     write_waiting(image, m.waiting);
 }

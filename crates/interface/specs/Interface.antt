@@ -8,9 +8,10 @@ use Rattle.word.specs.Choice.{if_then_else_}
 use Rattle.flow.specs.Flow.{machine-length, way, target}
 use Rattle.flow.specs.declared.Way.{Way}
 use Rattle.flow.specs.declared.Way.the-variants.{Next, Direct, Taken}
-use Rattle.memory.specs.declared.Setup.{Setup}
+use Rattle.setup.specs.declared.Setup.{Setup}
+use Rattle.setup.specs.Setup.{at-base}
 use Rattle.memory.specs.Memory.{stored}
-use Rattle.machine.specs.Access.{Outcome}
+use Rattle.machine.specs.Machine.{Outcome}
 use Rattle.machine.specs.Step.{stepped}
 use Rattle.image.specs.Image.{is-image, machine-of, image-of}
 use Rattle.listing.specs.declared.Checked.{Checked}
@@ -56,7 +57,7 @@ run-left number image memory answer = record { number = number; image = image; m
 -- "number, place and count as little-endian words"
 unfoldable pub with-answer : List ℕ → ℕ → ℕ → ℕ → List ℕ
 with-answer answer number place count =
-    let first : Setup = record { base = 0 } in
+    let first = at-base 0 in
     stored 4 first (stored 4 first (stored 4 first answer 0 number) 4 place) 8 count
 
 -- "Machine and memory are handed back as after the last good step."
@@ -87,10 +88,12 @@ text-laid t = text-left (t .answer .length) (t .room)
 abbrev pub pair : ℕ → ℕ → ℕ
 pair low high = high * 2 ^ 32 + low
 
+-- the listing bytes of a record, and above them its machine bytes; 0 where there is none
 unfoldable pub measured : ReadAt → ℕ → ℕ
 measured (Found r next) kind = pair (listing-length kind) (machine-length r)
 measured Nothing kind = 0
 
+-- 0 for a record that goes on; 1, and above it the target; 2 where a register or memory says
 unfoldable pub way-number : Way → ℕ → ℕ
 way-number Next address = 0
 way-number (Direct offset) address = pair 1 (target address (Direct offset))

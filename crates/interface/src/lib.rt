@@ -1,6 +1,7 @@
 // The C functions of the stepper, on numbers and byte slices: include/simbhoket.h declares them.
 
 ghost use mathlib.Core.Path.{_≡_};
+ghost use Rattle.setup.specs.Setup.{at-base};
 ghost use Rattle.little.specs.Little.{byte};
 ghost use Rattle.judge.specs.Judge.{judged};
 ghost use Rattle.reading.specs.Reading.{read-one, read-at};
@@ -12,10 +13,10 @@ ghost use Rattle.rehearsal.specs.Program.{rehearsed};
 ghost use Rattle.interface.specs.Interface.{left, image-stepped, run-left, with-answer, image-run, text-left, text-laid, pair, measured, way-number, way-read, reported};
 use flow::Way;
 use machine::Machine;
-use memory::Setup;
 use reading::Place;
 use reading::Read;
 use reading::ReadAt;
+use setup::Setup;
 
 #[no_mangle]
 pub extern "C" fn simbhoket_judge(r: &[u8], waiting: u32) -> u32
@@ -55,12 +56,12 @@ pub extern "C" fn simbhoket_check(listing: &[u8], base: u32) -> u64
 
 #[no_mangle]
 pub extern "C" fn simbhoket_step(machine: &mut [u8], r: &[u8], memory: &mut [u8], base: u32) -> u32
-    ensures { λ n. ⌜ left n (now (machine .exit)) (now (memory .exit)) ≡ image-stepped (now (machine .entry)) (now (r .entry)) (now (memory .entry)) (record { base = base }) ⌝ }
+    ensures { λ n. ⌜ left n (now (machine .exit)) (now (memory .exit)) ≡ image-stepped (now (machine .entry)) (now (r .entry)) (now (memory .entry)) (at-base base) ⌝ }
 {
     let known = image::is_image_of(machine);
     if known {
         let before = image::read(machine);
-        let stepped = before.step(r, memory, Setup { base });
+        let stepped = before.step(r, memory, Setup::new(base));
         let number = stepped.number;
         write_if(number == 0, machine, stepped.machine);
         return number;
@@ -78,12 +79,12 @@ pub extern "C" fn simbhoket_run(
     budget: u32,
     answer: &mut [u8],
 ) -> u32
-    ensures { λ n. ⌜ run-left n (now (machine .exit)) (now (memory .exit)) (now (answer .exit)) ≡ image-run budget (rehearsal (now (listing .entry)) origin (record { base = base })) (now (machine .entry)) (now (memory .entry)) (now (answer .entry)) ⌝ }
+    ensures { λ n. ⌜ run-left n (now (machine .exit)) (now (memory .exit)) (now (answer .exit)) ≡ image-run budget (rehearsal (now (listing .entry)) origin (at-base base)) (now (machine .entry)) (now (memory .entry)) (now (answer .entry)) ⌝ }
 {
     let known = image::is_image_of(machine) & (answer.len() == 12);
     if known {
         let before = image::read(machine);
-        let ran = run::run(before, listing, origin, memory, Setup { base }, budget);
+        let ran = run::run(before, listing, origin, memory, Setup::new(base), budget);
         let after = ran.machine;
         image::write(machine, after);
         let place = ran.place.0;
@@ -104,7 +105,7 @@ pub extern "C" fn simbhoket_rehearse(listing: &[u8], room: &mut [u8]) -> usize
 fn tell(answer: &mut [u8], number: u32, place: usize, count: u32)
     ensures { λ n. ⌜ now (answer .exit) ≡ with-answer (now (answer .entry)) number place count ⌝ }
 {
-    let first = Setup { base: 0 };
+    let first = Setup::new(0);
     memory::store_word(answer, first, 0, number);
     memory::store_word(answer, first, 4, (place % 0x1_0000_0000) as u32);
     memory::store_word(answer, first, 8, count);

@@ -1,13 +1,13 @@
 -- The table of kinds: "One byte of kind (hex), then a body whose length the kind fixes. .. Numbers little-endian."
-use Prim.Native.Nat.{ℕ, _+_, _*_, _^_}
+use Prim.Native.Nat.{ℕ}
 use mathlib.Core.List.{List, [], _∷_}
 use lib.ListN.{getD}
 use Rattle.word.specs.Word.{bit, signed, signed-in}
-use Rattle.little.specs.Little.{byte}
-use Rattle.record.specs.Op.{access-op, add-op, branch-op, compare-op, data-op, divide-op, dual-op, extend-op, field-op, long-op, mode, move-op, multiple-op, multiply-op, register-op, saturate-op, shift, turn-op}
+use Rattle.little.specs.Little.{byte, number-at}
+use Rattle.record.specs.Op.{access-op, add-op, branch-op, compare-op, data-op, divide-op, dual-op, extend-op, field-op, long-op, mode, move-op, multiple-op, multiply-op, register-op, saturate-op, shift, unary-op}
 use Rattle.record.specs.declared.Form.{Form}
 use Rattle.record.specs.declared.Record.{Record}
-use Rattle.record.specs.declared.Record.the-variants.{ShiftedRegister, Constant, RegisterShift, AddNumber, MoveNumber, Turn, Multiply, LongMultiply, Divide, Saturate, BitField, Extend, Access, IndexedAccess, DualAccess, MultipleAccess, Branch, RegisterBranch, CompareBranch, IfThen, Nop}
+use Rattle.record.specs.declared.Record.the-variants.{ShiftedRegister, Constant, RegisterShift, AddNumber, MoveNumber, Unary, Multiply, LongMultiply, Divide, Saturate, BitField, Extend, Access, IndexedAccess, DualAccess, MultipleAccess, Branch, RegisterBranch, CompareBranch, IfThen, Nop}
 
 -- the bytes of a record of each kind, its kind byte included; 0: there is no such kind
 abbrev pub lengths : List ℕ
@@ -30,17 +30,17 @@ nine r =
 
 -- numbers of 2 and 4 bytes
 abbrev pub half : List ℕ → ℕ → ℕ
-half r at = byte r at + 2 ^ 8 * byte r (at + 1)
+half r at = number-at 2 r at
 
 abbrev pub word : List ℕ → ℕ → ℕ
-word r at = half r at + 2 ^ 16 * half r (at + 2)
+word r at = number-at 4 r at
 
 -- "bit 0 S, bit 1 set for 4 machine bytes"
 unfoldable pub form : ℕ → Form
 form bits = record { s = bit 0 bits; wide = bit 1 bits }
 
-unfoldable pub shifted-register : List ℕ → Record
-shifted-register r = ShiftedRegister (record {
+unfoldable pub shifted-register-from : List ℕ → Record
+shifted-register-from r = ShiftedRegister (record {
   op = data-op (byte r 1);
   form = form (byte r 2);
   rd = byte r 3;
@@ -50,8 +50,8 @@ shifted-register r = ShiftedRegister (record {
   amount = byte r 7;
 })
 
-unfoldable pub constant : List ℕ → Record
-constant r = Constant (record {
+unfoldable pub constant-from : List ℕ → Record
+constant-from r = Constant (record {
   op = data-op (byte r 1);
   form = form (byte r 2);
   rd = byte r 3;
@@ -59,8 +59,8 @@ constant r = Constant (record {
   constant = word r 5;
 })
 
-unfoldable pub register-shift : List ℕ → Record
-register-shift r = RegisterShift (record {
+unfoldable pub register-shift-from : List ℕ → Record
+register-shift-from r = RegisterShift (record {
   shift = shift (byte r 1);
   form = form (byte r 2);
   rd = byte r 3;
@@ -68,8 +68,8 @@ register-shift r = RegisterShift (record {
   rs = byte r 5;
 })
 
-unfoldable pub add-number : List ℕ → Record
-add-number r = AddNumber (record {
+unfoldable pub add-number-from : List ℕ → Record
+add-number-from r = AddNumber (record {
   op = add-op (byte r 1);
   form = form (byte r 2);
   rd = byte r 3;
@@ -77,24 +77,24 @@ add-number r = AddNumber (record {
   number = half r 5;
 })
 
-unfoldable pub move-number : List ℕ → Record
-move-number r = MoveNumber (record {
+unfoldable pub move-number-from : List ℕ → Record
+move-number-from r = MoveNumber (record {
   op = move-op (byte r 1);
   form = form (byte r 2);
   rd = byte r 3;
   number = half r 4;
 })
 
-unfoldable pub turn : List ℕ → Record
-turn r = Turn (record {
-  op = turn-op (byte r 1);
+unfoldable pub unary-from : List ℕ → Record
+unary-from r = Unary (record {
+  op = unary-op (byte r 1);
   form = form (byte r 2);
   rd = byte r 3;
   rm = byte r 4;
 })
 
-unfoldable pub multiply : List ℕ → Record
-multiply r = Multiply (record {
+unfoldable pub multiply-from : List ℕ → Record
+multiply-from r = Multiply (record {
   op = multiply-op (byte r 1);
   form = form (byte r 2);
   rd = byte r 3;
@@ -103,8 +103,8 @@ multiply r = Multiply (record {
   ra = byte r 6;
 })
 
-unfoldable pub long-multiply : List ℕ → Record
-long-multiply r = LongMultiply (record {
+unfoldable pub long-multiply-from : List ℕ → Record
+long-multiply-from r = LongMultiply (record {
   op = long-op (byte r 1);
   form = form (byte r 2);
   low = byte r 3;
@@ -113,8 +113,8 @@ long-multiply r = LongMultiply (record {
   rm = byte r 6;
 })
 
-unfoldable pub divide : List ℕ → Record
-divide r = Divide (record {
+unfoldable pub divide-from : List ℕ → Record
+divide-from r = Divide (record {
   op = divide-op (byte r 1);
   form = form (byte r 2);
   rd = byte r 3;
@@ -122,8 +122,8 @@ divide r = Divide (record {
   rm = byte r 5;
 })
 
-unfoldable pub saturate : List ℕ → Record
-saturate r = Saturate (record {
+unfoldable pub saturate-from : List ℕ → Record
+saturate-from r = Saturate (record {
   op = saturate-op (byte r 1);
   form = form (byte r 2);
   rd = byte r 3;
@@ -133,8 +133,8 @@ saturate r = Saturate (record {
   amount = byte r 7;
 })
 
-unfoldable pub bit-field : List ℕ → Record
-bit-field r = BitField (record {
+unfoldable pub bit-field-from : List ℕ → Record
+bit-field-from r = BitField (record {
   op = field-op (byte r 1);
   form = form (byte r 2);
   rd = byte r 3;
@@ -143,8 +143,8 @@ bit-field r = BitField (record {
   width = byte r 6;
 })
 
-unfoldable pub extend : List ℕ → Record
-extend r = Extend (record {
+unfoldable pub extend-from : List ℕ → Record
+extend-from r = Extend (record {
   op = extend-op (byte r 1);
   form = form (byte r 2);
   rd = byte r 3;
@@ -152,8 +152,8 @@ extend r = Extend (record {
   rotation = byte r 5;
 })
 
-unfoldable pub access : List ℕ → Record
-access r = Access (record {
+unfoldable pub access-from : List ℕ → Record
+access-from r = Access (record {
   op = access-op (byte r 1);
   form = form (byte r 2);
   rt = byte r 3;
@@ -162,8 +162,8 @@ access r = Access (record {
   offset = signed-in 16 (half r 6);
 })
 
-unfoldable pub indexed-access : List ℕ → Record
-indexed-access r = IndexedAccess (record {
+unfoldable pub indexed-access-from : List ℕ → Record
+indexed-access-from r = IndexedAccess (record {
   op = access-op (byte r 1);
   form = form (byte r 2);
   rt = byte r 3;
@@ -172,8 +172,8 @@ indexed-access r = IndexedAccess (record {
   amount = byte r 6;
 })
 
-unfoldable pub dual-access : List ℕ → Record
-dual-access r = DualAccess (record {
+unfoldable pub dual-access-from : List ℕ → Record
+dual-access-from r = DualAccess (record {
   op = dual-op (byte r 1);
   form = form (byte r 2);
   rt = byte r 3;
@@ -183,8 +183,8 @@ dual-access r = DualAccess (record {
   offset = signed-in 16 (half r 7);
 })
 
-unfoldable pub multiple-access : List ℕ → Record
-multiple-access r = MultipleAccess (record {
+unfoldable pub multiple-access-from : List ℕ → Record
+multiple-access-from r = MultipleAccess (record {
   op = multiple-op (byte r 1);
   form = form (byte r 2);
   rn = byte r 3;
@@ -192,45 +192,45 @@ multiple-access r = MultipleAccess (record {
   list = half r 5;
 })
 
-unfoldable pub branch : List ℕ → Record
-branch r = Branch (record {
+unfoldable pub branch-from : List ℕ → Record
+branch-from r = Branch (record {
   op = branch-op (byte r 1);
   form = form (byte r 2);
   condition = byte r 3;
   offset = signed (word r 4);
 })
 
-unfoldable pub register-branch : List ℕ → Record
-register-branch r = RegisterBranch (record {
+unfoldable pub register-branch-from : List ℕ → Record
+register-branch-from r = RegisterBranch (record {
   op = register-op (byte r 1);
   form = form (byte r 2);
   rm = byte r 3;
 })
 
-unfoldable pub compare-branch : List ℕ → Record
-compare-branch r = CompareBranch (record {
+unfoldable pub compare-branch-from : List ℕ → Record
+compare-branch-from r = CompareBranch (record {
   op = compare-op (byte r 1);
   form = form (byte r 2);
   rn = byte r 3;
   offset = byte r 4;
 })
 
-unfoldable pub if-then : List ℕ → Record
-if-then r = IfThen (record {
+unfoldable pub if-then-from : List ℕ → Record
+if-then-from r = IfThen (record {
   form = form (byte r 1);
   condition = byte r 2;
   count = byte r 3;
   elses = byte r 4;
 })
 
-abbrev pub nop : List ℕ → Record
-nop r = Nop (form (byte r 1))
+abbrev pub nop-from : List ℕ → Record
+nop-from r = Nop (form (byte r 1))
 
 -- how each kind is read
 abbrev pub readings : List (List ℕ → Record)
 readings =
-    nop ∷ shifted-register ∷ constant ∷ register-shift ∷ add-number ∷ move-number ∷ turn ∷ multiply ∷ long-multiply ∷ divide ∷ saturate ∷ bit-field ∷ extend ∷ access ∷ indexed-access ∷ dual-access ∷ multiple-access ∷ branch ∷ register-branch ∷ compare-branch ∷ if-then ∷ []
+    nop-from ∷ shifted-register-from ∷ constant-from ∷ register-shift-from ∷ add-number-from ∷ move-number-from ∷ unary-from ∷ multiply-from ∷ long-multiply-from ∷ divide-from ∷ saturate-from ∷ bit-field-from ∷ extend-from ∷ access-from ∷ indexed-access-from ∷ dual-access-from ∷ multiple-access-from ∷ branch-from ∷ register-branch-from ∷ compare-branch-from ∷ if-then-from ∷ []
 
 -- the record that the bytes r are, by their kind
 unfoldable pub record-of : List ℕ → Record
-record-of r = getD readings (byte r 0) nop r
+record-of r = getD readings (byte r 0) nop-from r

@@ -1,8 +1,9 @@
 // The table of kinds: how long a record is, and its fields, read from its bytes.
 
 ghost use mathlib.Core.Path.{_≡_};
-ghost use Prim.Native.Nat.{_+_, _*_, _^_};
-ghost use Rattle.kinds.specs.Kinds.{nine, listing-length, names, form, record-of, shifted-register, constant, register-shift, add-number, move-number, turn, multiply, long-multiply, divide, saturate, bit-field, extend, access, indexed-access, dual-access, multiple-access, branch, register-branch, compare-branch, if-then};
+ghost use mathlib.Core.List.{[], _∷_};
+ghost use Rattle.little.specs.Little.{number-at};
+ghost use Rattle.kinds.specs.Kinds.{nine, listing-length, names, form, record-of, shifted-register-from, constant-from, register-shift-from, add-number-from, move-number-from, unary-from, multiply-from, long-multiply-from, divide-from, saturate-from, bit-field-from, extend-from, access-from, indexed-access-from, dual-access-from, multiple-access-from, branch-from, register-branch-from, compare-branch-from, if-then-from};
 use record::AccessFields;
 use record::AddNumberFields;
 use record::BitFieldFields;
@@ -24,7 +25,7 @@ use record::RegisterBranchFields;
 use record::RegisterShiftFields;
 use record::SaturateFields;
 use record::ShiftedRegisterFields;
-use record::TurnFields;
+use record::UnaryFields;
 
 // The record that the bytes are, by their kind.
 pub fn record_from(r: [u8; 9]) -> Record
@@ -38,7 +39,7 @@ pub fn record_from(r: [u8; 9]) -> Record
         3 => register_shift_from(r),
         4 => add_number_from(r),
         5 => move_number_from(r),
-        6 => turn_from(r),
+        6 => unary_from(r),
         7 => multiply_from(r),
         8 => long_multiply_from(r),
         9 => divide_from(r),
@@ -67,19 +68,19 @@ fn form_of(bits: u8) -> Form
 }
 
 fn half_of(low: u8, high: u8) -> u16
-    ensures { λ t. ⌜ t ≡ low + 2 ^ 8 * high ⌝ }
+    ensures { λ t. ⌜ t ≡ number-at 2 (low ∷ high ∷ []) 0 ⌝ }
 {
     (high as u16) << 8 | low as u16
 }
 
 fn word_of(a: u8, b: u8, c: u8, d: u8) -> u32
-    ensures { λ t. ⌜ t ≡ a + 2 ^ 8 * b + 2 ^ 16 * (c + 2 ^ 8 * d) ⌝ }
+    ensures { λ t. ⌜ t ≡ number-at 4 (a ∷ b ∷ c ∷ d ∷ []) 0 ⌝ }
 {
     (half_of(c, d) as u32) << 16 | half_of(a, b) as u32
 }
 
 fn shifted_register_from(r: [u8; 9]) -> Record
-    ensures { λ t. ⌜ t ≡ shifted-register r ⌝ }
+    ensures { λ t. ⌜ t ≡ shifted-register-from r ⌝ }
 {
     Record::ShiftedRegister(ShiftedRegisterFields {
         op: record::op::data_op_of(r[1]),
@@ -93,7 +94,7 @@ fn shifted_register_from(r: [u8; 9]) -> Record
 }
 
 fn constant_from(r: [u8; 9]) -> Record
-    ensures { λ t. ⌜ t ≡ constant r ⌝ }
+    ensures { λ t. ⌜ t ≡ constant-from r ⌝ }
 {
     Record::Constant(ConstantFields {
         op: record::op::data_op_of(r[1]),
@@ -105,7 +106,7 @@ fn constant_from(r: [u8; 9]) -> Record
 }
 
 fn register_shift_from(r: [u8; 9]) -> Record
-    ensures { λ t. ⌜ t ≡ register-shift r ⌝ }
+    ensures { λ t. ⌜ t ≡ register-shift-from r ⌝ }
 {
     Record::RegisterShift(RegisterShiftFields {
         shift: record::op::shift_of(r[1]),
@@ -117,7 +118,7 @@ fn register_shift_from(r: [u8; 9]) -> Record
 }
 
 fn add_number_from(r: [u8; 9]) -> Record
-    ensures { λ t. ⌜ t ≡ add-number r ⌝ }
+    ensures { λ t. ⌜ t ≡ add-number-from r ⌝ }
 {
     Record::AddNumber(AddNumberFields {
         op: record::op::add_op_of(r[1]),
@@ -129,7 +130,7 @@ fn add_number_from(r: [u8; 9]) -> Record
 }
 
 fn move_number_from(r: [u8; 9]) -> Record
-    ensures { λ t. ⌜ t ≡ move-number r ⌝ }
+    ensures { λ t. ⌜ t ≡ move-number-from r ⌝ }
 {
     Record::MoveNumber(MoveNumberFields {
         op: record::op::move_op_of(r[1]),
@@ -139,11 +140,11 @@ fn move_number_from(r: [u8; 9]) -> Record
     })
 }
 
-fn turn_from(r: [u8; 9]) -> Record
-    ensures { λ t. ⌜ t ≡ turn r ⌝ }
+fn unary_from(r: [u8; 9]) -> Record
+    ensures { λ t. ⌜ t ≡ unary-from r ⌝ }
 {
-    Record::Turn(TurnFields {
-        op: record::op::turn_op_of(r[1]),
+    Record::Unary(UnaryFields {
+        op: record::op::unary_op_of(r[1]),
         form: form_of(r[2]),
         rd: r[3],
         rm: r[4],
@@ -151,7 +152,7 @@ fn turn_from(r: [u8; 9]) -> Record
 }
 
 fn multiply_from(r: [u8; 9]) -> Record
-    ensures { λ t. ⌜ t ≡ multiply r ⌝ }
+    ensures { λ t. ⌜ t ≡ multiply-from r ⌝ }
 {
     Record::Multiply(MultiplyFields {
         op: record::op::multiply_op_of(r[1]),
@@ -164,7 +165,7 @@ fn multiply_from(r: [u8; 9]) -> Record
 }
 
 fn long_multiply_from(r: [u8; 9]) -> Record
-    ensures { λ t. ⌜ t ≡ long-multiply r ⌝ }
+    ensures { λ t. ⌜ t ≡ long-multiply-from r ⌝ }
 {
     Record::LongMultiply(LongMultiplyFields {
         op: record::op::long_op_of(r[1]),
@@ -177,7 +178,7 @@ fn long_multiply_from(r: [u8; 9]) -> Record
 }
 
 fn divide_from(r: [u8; 9]) -> Record
-    ensures { λ t. ⌜ t ≡ divide r ⌝ }
+    ensures { λ t. ⌜ t ≡ divide-from r ⌝ }
 {
     Record::Divide(DivideFields {
         op: record::op::divide_op_of(r[1]),
@@ -189,7 +190,7 @@ fn divide_from(r: [u8; 9]) -> Record
 }
 
 fn saturate_from(r: [u8; 9]) -> Record
-    ensures { λ t. ⌜ t ≡ saturate r ⌝ }
+    ensures { λ t. ⌜ t ≡ saturate-from r ⌝ }
 {
     Record::Saturate(SaturateFields {
         op: record::op::saturate_op_of(r[1]),
@@ -203,7 +204,7 @@ fn saturate_from(r: [u8; 9]) -> Record
 }
 
 fn bit_field_from(r: [u8; 9]) -> Record
-    ensures { λ t. ⌜ t ≡ bit-field r ⌝ }
+    ensures { λ t. ⌜ t ≡ bit-field-from r ⌝ }
 {
     Record::BitField(BitFieldFields {
         op: record::op::field_op_of(r[1]),
@@ -216,7 +217,7 @@ fn bit_field_from(r: [u8; 9]) -> Record
 }
 
 fn extend_from(r: [u8; 9]) -> Record
-    ensures { λ t. ⌜ t ≡ extend r ⌝ }
+    ensures { λ t. ⌜ t ≡ extend-from r ⌝ }
 {
     Record::Extend(ExtendFields {
         op: record::op::extend_op_of(r[1]),
@@ -228,7 +229,7 @@ fn extend_from(r: [u8; 9]) -> Record
 }
 
 fn access_from(r: [u8; 9]) -> Record
-    ensures { λ t. ⌜ t ≡ access r ⌝ }
+    ensures { λ t. ⌜ t ≡ access-from r ⌝ }
 {
     Record::Access(AccessFields {
         op: record::op::access_op_of(r[1]),
@@ -241,7 +242,7 @@ fn access_from(r: [u8; 9]) -> Record
 }
 
 fn indexed_access_from(r: [u8; 9]) -> Record
-    ensures { λ t. ⌜ t ≡ indexed-access r ⌝ }
+    ensures { λ t. ⌜ t ≡ indexed-access-from r ⌝ }
 {
     Record::IndexedAccess(IndexedAccessFields {
         op: record::op::access_op_of(r[1]),
@@ -254,7 +255,7 @@ fn indexed_access_from(r: [u8; 9]) -> Record
 }
 
 fn dual_access_from(r: [u8; 9]) -> Record
-    ensures { λ t. ⌜ t ≡ dual-access r ⌝ }
+    ensures { λ t. ⌜ t ≡ dual-access-from r ⌝ }
 {
     Record::DualAccess(DualAccessFields {
         op: record::op::dual_op_of(r[1]),
@@ -268,7 +269,7 @@ fn dual_access_from(r: [u8; 9]) -> Record
 }
 
 fn multiple_access_from(r: [u8; 9]) -> Record
-    ensures { λ t. ⌜ t ≡ multiple-access r ⌝ }
+    ensures { λ t. ⌜ t ≡ multiple-access-from r ⌝ }
 {
     Record::MultipleAccess(MultipleAccessFields {
         op: record::op::multiple_op_of(r[1]),
@@ -280,7 +281,7 @@ fn multiple_access_from(r: [u8; 9]) -> Record
 }
 
 fn branch_from(r: [u8; 9]) -> Record
-    ensures { λ t. ⌜ t ≡ branch r ⌝ }
+    ensures { λ t. ⌜ t ≡ branch-from r ⌝ }
 {
     Record::Branch(BranchFields {
         op: record::op::branch_op_of(r[1]),
@@ -291,7 +292,7 @@ fn branch_from(r: [u8; 9]) -> Record
 }
 
 fn register_branch_from(r: [u8; 9]) -> Record
-    ensures { λ t. ⌜ t ≡ register-branch r ⌝ }
+    ensures { λ t. ⌜ t ≡ register-branch-from r ⌝ }
 {
     Record::RegisterBranch(RegisterBranchFields {
         op: record::op::register_op_of(r[1]),
@@ -301,7 +302,7 @@ fn register_branch_from(r: [u8; 9]) -> Record
 }
 
 fn compare_branch_from(r: [u8; 9]) -> Record
-    ensures { λ t. ⌜ t ≡ compare-branch r ⌝ }
+    ensures { λ t. ⌜ t ≡ compare-branch-from r ⌝ }
 {
     Record::CompareBranch(CompareBranchFields {
         op: record::op::compare_op_of(r[1]),
@@ -312,7 +313,7 @@ fn compare_branch_from(r: [u8; 9]) -> Record
 }
 
 fn if_then_from(r: [u8; 9]) -> Record
-    ensures { λ t. ⌜ t ≡ if-then r ⌝ }
+    ensures { λ t. ⌜ t ≡ if-then-from r ⌝ }
 {
     Record::IfThen(IfThenFields {
         form: form_of(r[1]),

@@ -15,7 +15,7 @@ use Rattle.layout.specs.declared.Sought.{Sought}
 use Rattle.layout.specs.declared.Sought.the-variants.{At, Nowhere}
 use Rattle.layout.specs.declared.AtAddress.{AtAddress}
 use Rattle.layout.specs.declared.AtAddress.the-variants.{Stands, End, Stray}
-use Rattle.layout.specs.Layout.{Met, Onward, AtEnd, Refusal, start, meets, followed, walk, layout, sought, held, held-at, at-address}
+use Rattle.layout.specs.Layout.{Met, Onward, AtEnd, Refusal, start, meets, followed, walk, layout, sought, standing, standing-at, at-address}
 use Rattle.layout.proofs.Points.{Within, within-start, within-next, onto, rises, walk-from, walk-more}
 
 -- a point of the layout
@@ -117,8 +117,8 @@ module _ (listing : List ℕ) (base : ℕ) where
     next-on = member-next (length listing + 1) (start base) p (within-start listing base) (omega arith) o
 
     -- what stands at its address is what it holds
-    pub on-found : at-address listing base (p .address .0) ≡ held (meets listing p) p
-    unfolding at-address held-at layout
+    pub on-found : at-address listing base (p .address .0) ≡ standing (meets listing p) p
+    unfolding at-address standing-at layout
     on-found = rw (member-sought (length listing + 1) (start base) p o)
 
   -- a record that was found at an address stands at a point of the layout
@@ -136,10 +136,10 @@ module _ (listing : List ℕ) (base : ℕ) where
 
   module _ (address : ℕ) where
     pub stands-on : (r : Record) (p : Point) → at-address listing base address ≡ Stands r p → Standing address r p
-    unfolding at-address held-at held
+    unfolding at-address standing-at standing
     stands-on r p = found (sought address (layout listing base)) refl
       where
-        met : (q : Point) → On listing base q × (q .address .0 ≡ address) → (t : Met) → meets listing q ≡ t → held t q ≡ Stands r p → Standing address r p
+        met : (q : Point) → On listing base q × (q .address .0 ≡ address) → (t : Met) → meets listing q ≡ t → standing t q ≡ Stands r p → Standing address r p
         met q m (Onward x y) e f =
             let same : q ≡ p = cc in
             let this : x ≡ r = cc in
@@ -147,19 +147,19 @@ module _ (listing : List ℕ) (base : ℕ) where
         met q m AtEnd e f = let z : _≡_ {A = ℕ} 0 1 = cc in absurd (omega arith)
         met q m (Refusal number) e f = let z : _≡_ {A = ℕ} 0 1 = cc in absurd (omega arith)
 
-        found : (x : Sought) → sought address (layout listing base) ≡ x → held-at listing x ≡ Stands r p → Standing address r p
+        found : (x : Sought) → sought address (layout listing base) ≡ x → standing-at listing x ≡ Stands r p → Standing address r p
         found (At q) e f = met q (sought-member address (layout listing base) q e) (meets listing q) refl f
         found Nowhere e f = let z : _≡_ {A = ℕ} 0 1 = cc in absurd (omega arith)
 
     pub ends-on : at-address listing base address ≡ End → Ending address
-    unfolding at-address held-at held
+    unfolding at-address standing-at standing
     ends-on = found (sought address (layout listing base)) refl
       where
-        met : (q : Point) → On listing base q × (q .address .0 ≡ address) → (t : Met) → meets listing q ≡ t → held t q ≡ End → Ending address
+        met : (q : Point) → On listing base q × (q .address .0 ≡ address) → (t : Met) → meets listing q ≡ t → standing t q ≡ End → Ending address
         met q m (Onward x y) e f = let z : _≡_ {A = ℕ} 0 1 = cc in absurd (omega arith)
         met q m AtEnd e f = record { point = q; on = m .0; at = m .1; ends = e }
         met q m (Refusal number) e f = let z : _≡_ {A = ℕ} 0 1 = cc in absurd (omega arith)
 
-        found : (x : Sought) → sought address (layout listing base) ≡ x → held-at listing x ≡ End → Ending address
+        found : (x : Sought) → sought address (layout listing base) ≡ x → standing-at listing x ≡ End → Ending address
         found (At q) e f = met q (sought-member address (layout listing base) q e) (meets listing q) refl f
         found Nowhere e f = let z : _≡_ {A = ℕ} 0 1 = cc in absurd (omega arith)

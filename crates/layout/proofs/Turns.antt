@@ -17,11 +17,11 @@ use Rattle.layout.specs.declared.Seen.the-variants.{Goes, Ends, Stops}
 use Rattle.layout.specs.declared.Sought.{Sought}
 use Rattle.layout.specs.declared.Sought.the-variants.{At, Nowhere}
 use Rattle.layout.specs.Layout.{Met, Onward, AtEnd, Refusal, meets, followed, walk, sought}
-use Rattle.layout.specs.Seen.{kept, seen}
+use Rattle.layout.specs.Seen.{in-64-bits, seen}
 use Rattle.layout.proofs.Points.{next-address, rises, walk-from, walk-on, walk-end, walk-refused, walk-none}
 
-kept-whole : (p : Point) → p .address .0 < 2 ^ 64 → kept p ≡ p
-unfolding kept
+kept-whole : (p : Point) → p .address .0 < 2 ^ 64 → in-64-bits p ≡ p
+unfolding in-64-bits
 kept-whole p h = rw (mod-eq-of-lt h)
 
 -- ---- a record was seen, and where it goes
@@ -39,7 +39,7 @@ module _ (listing : List ℕ) (p : Point) (t : Seen) (is : t ≡ seen (meets lis
       go (Onward r s) f g =
           let n = next-address listing p r s f in
           let whole = kept-whole s (omega (arith, machine-bytes r)) in
-          let same : kept s ≡ q = cc in
+          let same : in-64-bits s ≡ q = cc in
           record { what = r; leads = cc; goes = f ∙ ap (Onward r) (sym whole ∙ same) }
       go AtEnd f g = let z : _≡_ {A = ℕ} 0 1 = cc in absurd (omega arith)
       go (Refusal number) f g = let z : _≡_ {A = ℕ} 0 1 = cc in absurd (omega arith)

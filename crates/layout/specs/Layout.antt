@@ -43,9 +43,11 @@ judged-at (Found r place) p =
     let number = refusal r (waiting-count (p .waiting)) in if eqb number 0 then Onward r (next r place p) else Refusal number
 judged-at Nothing p = Refusal 2
 
+-- what stands at a point: the end of the listing, or what is read there
 unfoldable pub meets : List ℕ → Point → Met
 meets listing p = if eqb (p .place .0) (length listing) then AtEnd else judged-at (read-at listing (p .place .0)) p
 
+-- the points after one, if a record stands there that is not refused
 abbrev pub followed : Met → (Point → List Point) → List Point
 followed (Onward r q) rest = rest q
 followed AtEnd rest = []
@@ -66,15 +68,16 @@ sought address [] = Nowhere
 sought address (p ∷ ps) = if eqb (p .address .0) address then At p else sought address ps
 
 -- what stands at a point, if 2, 3 and 4 leave it
-unfoldable pub held : Met → Point → AtAddress
-held (Onward r q) p = Stands r p
-held AtEnd p = End
-held (Refusal number) p = Stray
+unfoldable pub standing : Met → Point → AtAddress
+standing (Onward r q) p = Stands r p
+standing AtEnd p = End
+standing (Refusal number) p = Stray
 
-unfoldable pub held-at : List ℕ → Sought → AtAddress
-held-at listing (At p) = held (meets listing p) p
-held-at listing Nowhere = Stray
+-- and nothing where no point is
+unfoldable pub standing-at : List ℕ → Sought → AtAddress
+standing-at listing (At p) = standing (meets listing p) p
+standing-at listing Nowhere = Stray
 
 -- the record at an address, with its place and waiting conditions; or the end; or neither
 unfoldable pub at-address : List ℕ → ℕ → ℕ → AtAddress
-at-address listing base address = held-at listing (sought address (layout listing base))
+at-address listing base address = standing-at listing (sought address (layout listing base))

@@ -6,10 +6,10 @@ use Rattle.layout.specs.declared.Seen.{Seen}
 use Rattle.layout.specs.declared.Seen.the-variants.{Goes, Ends, Stops}
 use Rattle.layout.specs.Layout.{Met, Onward, AtEnd, Refusal}
 
-unfoldable pub kept : Point → Point
-kept p = record { place = p .place; address = record { 0 = p .address .0 % 2 ^ 64 }; waiting = p .waiting }
+unfoldable pub in-64-bits : Point → Point
+in-64-bits p = record { place = p .place; address = record { 0 = p .address .0 % 2 ^ 64 }; waiting = p .waiting }
 
 unfoldable pub seen : Met → Seen
-seen (Onward r q) = Goes (way r) (kept q)
+seen (Onward r q) = Goes (way r) (in-64-bits q)
 seen AtEnd = Ends
 seen (Refusal number) = Stops number

@@ -1,8 +1,8 @@
 // The layout of a listing: the walk along its records, and the search for an address.
 
 ghost use mathlib.Core.Path.{_≡_};
-ghost use Rattle.layout.specs.Layout.{start, next, judged-at, meets, layout, sought, held, held-at, at-address};
-ghost use Rattle.layout.specs.Seen.{kept, seen};
+ghost use Rattle.layout.specs.Layout.{start, next, judged-at, meets, layout, sought, standing, standing-at, at-address};
+ghost use Rattle.layout.specs.Seen.{in-64-bits, seen};
 ghost use Rattle.reading.specs.declared.ReadAt.the-variants.{Found};
 use flow::Way;
 use reading::Place;
@@ -78,7 +78,7 @@ fn see_record(r: Record, place: Place, point: Point) -> Seen
 }
 
 fn next_of(r: Record, place: Place, point: Point) -> Point
-    ensures { λ q. ⌜ q ≡ kept (next r place point) ⌝ }
+    ensures { λ q. ⌜ q ≡ in-64-bits (next r place point) ⌝ }
 {
     Point {
         place: place,
@@ -127,7 +127,7 @@ fn seek(listing: &[u8], base: u32, address: u32) -> Sought
 }
 
 fn hold(listing: &[u8], point: Point) -> AtAddress
-    ensures { λ t. ⌜ t ≡ held (meets (now (listing .entry)) point) point ⌝ }
+    ensures { λ t. ⌜ t ≡ standing (meets (now (listing .entry)) point) point ⌝ }
 {
     let at = point.place.0;
     let at_end = at == listing.len();
@@ -141,7 +141,7 @@ fn hold(listing: &[u8], point: Point) -> AtAddress
 }
 
 fn hold_record(r: Record, place: Place, point: Point) -> AtAddress
-    ensures { λ t. ⌜ t ≡ held (judged-at (Found r place) point) point ⌝ }
+    ensures { λ t. ⌜ t ≡ standing (judged-at (Found r place) point) point ⌝ }
 {
     let stands = judge::refusal_of(r, point.waiting.count()) == 0;
     if stands {

@@ -1,7 +1,7 @@
 // Bytes, halves and words of a lent slice, little-endian; past its end there are zeros.
 
 ghost use mathlib.Core.Path.{_≡_};
-ghost use Rattle.little.specs.Little.{byte, little};
+ghost use Rattle.little.specs.Little.{byte, number-at};
 
 pub fn byte_at(xs: &[u8], at: usize) -> u8
     ensures { λ r. ⌜ r ≡ byte (now (xs .entry)) at ⌝ }
@@ -10,7 +10,7 @@ pub fn byte_at(xs: &[u8], at: usize) -> u8
 }
 
 pub fn half_at(xs: &[u8], at: usize) -> u16
-    ensures { λ r. ⌜ r ≡ little 2 (now (xs .entry)) at ⌝ }
+    ensures { λ r. ⌜ r ≡ number-at 2 (now (xs .entry)) at ⌝ }
 {
     if xs.len() <= at {
         return 0;
@@ -19,7 +19,7 @@ pub fn half_at(xs: &[u8], at: usize) -> u16
 }
 
 pub fn word_at(xs: &[u8], at: usize) -> u32
-    ensures { λ r. ⌜ r ≡ little 4 (now (xs .entry)) at ⌝ }
+    ensures { λ r. ⌜ r ≡ number-at 4 (now (xs .entry)) at ⌝ }
 {
     if xs.len() <= at {
         return 0;

@@ -3,7 +3,7 @@ use Prim.Native.Nat.{ℕ, suc, _+_, _≤_}
 use mathlib.Core.List.{List}
 use Rattle.word.specs.Choice.{if_then_else_}
 use Rattle.register_list.specs.List.{member}
-use Rattle.memory.specs.declared.Setup.{Setup}
+use Rattle.setup.specs.declared.Setup.{Setup}
 use Rattle.memory.specs.Memory.{loaded}
 use Rattle.transfer.specs.Transfer.{slot}
 use Rattle.machine.specs.Access.{list-loaded}

@@ -13,10 +13,10 @@ use Rattle.record.specs.declared.CompareBranchFields.{CompareBranchFields}
 use Rattle.record.specs.declared.Record.{Record}
 use Rattle.record.specs.declared.Record.the-variants.{Branch, CompareBranch}
 use Rattle.flow.specs.Flow.{target, way}
+use Rattle.setup.specs.declared.Setup.{Setup}
 use Rattle.machine.specs.declared.Machine.{Machine}
 use Rattle.machine.specs.declared.Stepped.{Stepped}
-use Rattle.machine.specs.Machine.{PC, LR, held, operand-value, written}
-use Rattle.machine.specs.Access.{lands}
+use Rattle.machine.specs.Machine.{PC, LR, held, operand-value, written, done, landed}
 
 -- "BL, BLX set R14 to the next address with bit 0 set"
 unfoldable pub linking : Machine → Bool → Machine
@@ -27,13 +27,13 @@ unfoldable pub direct-target : Machine → Record → ℕ
 direct-target m r = target (held m PC) (way r)
 
 -- 11
-unfoldable pub branch : Machine → Machine → BranchFields → Machine
-branch m next d = written (linking next (is-bl (d .op))) PC (direct-target m (Branch d))
+unfoldable pub branch-effect : Machine → Machine → BranchFields → Setup → Stepped
+branch-effect m next d setup = done (written (linking next (is-bl (d .op))) PC (direct-target m (Branch d)))
 
 -- 12: "BLX reads Rm first"
-unfoldable pub register-branch : Machine → Machine → RegisterBranchFields → Stepped
-register-branch m next d =
-    let to = operand-value m (d .rm) in lands m (written (linking next (is-blx (d .op))) PC to) to
+unfoldable pub register-branch-effect : Machine → Machine → RegisterBranchFields → Setup → Stepped
+register-branch-effect m next d setup =
+    let to = operand-value m (d .rm) in landed m (written (linking next (is-blx (d .op))) PC to) to
 
 -- CBZ branches when Rn is zero, CBNZ when it is not
 unfoldable pub branches : CompareOp → ℕ → Bool
@@ -41,6 +41,6 @@ branches Cbz x = eqb x 0
 branches Cbnz x = not (eqb x 0)
 
 -- 13
-unfoldable pub compare-branch : Machine → Machine → CompareBranchFields → Machine
-compare-branch m next d =
-    if branches (d .op) (held m (d .rn)) then written next PC (direct-target m (CompareBranch d)) else next
+unfoldable pub compare-branch-effect : Machine → Machine → CompareBranchFields → Setup → Stepped
+compare-branch-effect m next d setup =
+    done (if branches (d .op) (held m (d .rn)) then written next PC (direct-target m (CompareBranch d)) else next)

@@ -2,9 +2,11 @@
 -- waiting conditions. R15 is the address of the record to be stepped."
 use Prim.Native.Nat.{ℕ, _+_, _%_, _^_}
 use mathlib.Core.Bool.{Bool, _&&_}
+use mathlib.Core.List.{List}
 use lib.Dec.{eqb}
 use lib.ListN.{getD, set, replicate}
 use Rattle.word.specs.Choice.{if_then_else_}
+use Rattle.word.specs.Word.{bit}
 use Rattle.address.specs.Address.{cleared}
 use Rattle.flags.specs.declared.Flags.{Flags}
 use Rattle.flags.specs.Flags.{clear, passes}
@@ -96,3 +98,16 @@ steady next = eqb (held next SP % 4) 0
 -- 7: "value for R13 is not a multiple of 4"
 unfoldable pub settled : Machine → Machine → Stepped
 settled m next = if steady next then done next else refused 7 m
+
+-- 7: "value for R15 has bit 0 clear"
+unfoldable pub landed : Machine → Machine → ℕ → Stepped
+landed m next value = if bit 0 value then settled m next else refused 7 m
+
+-- the outcome of a step: its answer, and memory after it
+pub record Outcome : Type 0 where
+  pub answer : Stepped
+  pub memory : List ℕ
+
+-- an answer that leaves memory as it was
+abbrev pub keeping : Stepped → List ℕ → Outcome
+keeping answer bytes = record { answer = answer; memory = bytes }

@@ -6,41 +6,41 @@ use mathlib.Core.List.{List}
 use lib.Dec.{eqb}
 use Rattle.word.specs.Choice.{if_then_else_}
 use Rattle.waiting.specs.Waiting.{waiting-count}
-use Rattle.memory.specs.declared.Setup.{Setup}
-use Rattle.memory.specs.Memory.{fits}
+use Rattle.setup.specs.declared.Setup.{Setup}
+use Rattle.setup.specs.Setup.{fits}
 use Rattle.record.specs.declared.Record.{Record}
-use Rattle.record.specs.declared.Record.the-variants.{ShiftedRegister, Constant, RegisterShift, AddNumber, MoveNumber, Turn, Multiply, LongMultiply, Divide, Saturate, BitField, Extend, Access, IndexedAccess, DualAccess, MultipleAccess, Branch, RegisterBranch, CompareBranch, IfThen, Nop}
+use Rattle.record.specs.declared.Record.the-variants.{ShiftedRegister, Constant, RegisterShift, AddNumber, MoveNumber, Unary, Multiply, LongMultiply, Divide, Saturate, BitField, Extend, Access, IndexedAccess, DualAccess, MultipleAccess, Branch, RegisterBranch, CompareBranch, IfThen, Nop}
 use Rattle.reading.specs.declared.Read.{Read}
 use Rattle.reading.specs.declared.Read.the-variants.{Is, Refused}
 use Rattle.reading.specs.Reading.{read-one}
 use Rattle.judge.specs.Judge.{refusal}
 use Rattle.machine.specs.declared.Machine.{Machine}
-use Rattle.machine.specs.Machine.{good, condition-passes, skipped, onward, refused, done, settled}
-use Rattle.machine.specs.Compute.{shifted-register, constant-data, register-shift, add-number, move-number, turn-done, multiply-done, long-multiply, divide-done, saturate-done, bit-field, extend-done}
-use Rattle.machine.specs.Access.{Outcome, keeping, access, indexed-access, dual-access, multiple-access}
-use Rattle.machine.specs.Branch.{branch, register-branch, compare-branch}
+use Rattle.machine.specs.Machine.{good, condition-passes, skipped, onward, refused, done, Outcome, keeping}
+use Rattle.machine.specs.Compute.{shifted-register-effect, constant-effect, register-shift-effect, add-number-effect, move-number-effect, unary-effect, multiply-effect, long-multiply-effect, divide-effect, saturate-effect, bit-field-effect, extend-effect}
+use Rattle.machine.specs.Access.{access-effect, indexed-access-effect, dual-access-effect, multiple-access-effect}
+use Rattle.machine.specs.Branch.{branch-effect, register-branch-effect, compare-branch-effect}
 
 -- what a record does whose condition passes: m is the machine before, next the machine at the next record
 unfoldable pub effect : Machine → Machine → Record → List ℕ → Setup → Outcome
-effect m next (ShiftedRegister d) bytes setup = keeping (settled m (shifted-register m next d)) bytes
-effect m next (Constant d) bytes setup = keeping (settled m (constant-data m next d)) bytes
-effect m next (RegisterShift d) bytes setup = keeping (settled m (register-shift m next d)) bytes
-effect m next (AddNumber d) bytes setup = keeping (settled m (add-number m next d)) bytes
-effect m next (MoveNumber d) bytes setup = keeping (settled m (move-number m next d)) bytes
-effect m next (Turn d) bytes setup = keeping (settled m (turn-done m next d)) bytes
-effect m next (Multiply d) bytes setup = keeping (settled m (multiply-done m next d)) bytes
-effect m next (LongMultiply d) bytes setup = keeping (settled m (long-multiply m next d)) bytes
-effect m next (Divide d) bytes setup = keeping (settled m (divide-done m next d)) bytes
-effect m next (Saturate d) bytes setup = keeping (settled m (saturate-done m next d)) bytes
-effect m next (BitField d) bytes setup = keeping (settled m (bit-field m next d)) bytes
-effect m next (Extend d) bytes setup = keeping (settled m (extend-done m next d)) bytes
-effect m next (Access d) bytes setup = access m next d bytes setup
-effect m next (IndexedAccess d) bytes setup = indexed-access m next d bytes setup
-effect m next (DualAccess d) bytes setup = dual-access m next d bytes setup
-effect m next (MultipleAccess d) bytes setup = multiple-access m next d bytes setup
-effect m next (Branch d) bytes setup = keeping (done (branch m next d)) bytes
-effect m next (RegisterBranch d) bytes setup = keeping (register-branch m next d) bytes
-effect m next (CompareBranch d) bytes setup = keeping (done (compare-branch m next d)) bytes
+effect m next (ShiftedRegister d) bytes setup = keeping (shifted-register-effect m next d setup) bytes
+effect m next (Constant d) bytes setup = keeping (constant-effect m next d setup) bytes
+effect m next (RegisterShift d) bytes setup = keeping (register-shift-effect m next d setup) bytes
+effect m next (AddNumber d) bytes setup = keeping (add-number-effect m next d setup) bytes
+effect m next (MoveNumber d) bytes setup = keeping (move-number-effect m next d setup) bytes
+effect m next (Unary d) bytes setup = keeping (unary-effect m next d setup) bytes
+effect m next (Multiply d) bytes setup = keeping (multiply-effect m next d setup) bytes
+effect m next (LongMultiply d) bytes setup = keeping (long-multiply-effect m next d setup) bytes
+effect m next (Divide d) bytes setup = keeping (divide-effect m next d setup) bytes
+effect m next (Saturate d) bytes setup = keeping (saturate-effect m next d setup) bytes
+effect m next (BitField d) bytes setup = keeping (bit-field-effect m next d setup) bytes
+effect m next (Extend d) bytes setup = keeping (extend-effect m next d setup) bytes
+effect m next (Access d) bytes setup = access-effect m next d bytes setup
+effect m next (IndexedAccess d) bytes setup = indexed-access-effect m next d bytes setup
+effect m next (DualAccess d) bytes setup = dual-access-effect m next d bytes setup
+effect m next (MultipleAccess d) bytes setup = multiple-access-effect m next d bytes setup
+effect m next (Branch d) bytes setup = keeping (branch-effect m next d setup) bytes
+effect m next (RegisterBranch d) bytes setup = keeping (register-branch-effect m next d setup) bytes
+effect m next (CompareBranch d) bytes setup = keeping (compare-branch-effect m next d setup) bytes
 effect m next (IfThen d) bytes setup = keeping (done next) bytes
 effect m next (Nop form) bytes setup = keeping (done next) bytes
 

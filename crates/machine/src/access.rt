@@ -2,23 +2,24 @@
 // every test is passed.
 
 ghost use mathlib.Core.Path.{_≡_};
-ghost use Rattle.machine.specs.Access.{keeping, storing, lands, based, arriving, access-made, access-done, access, indexed-access, dual-made, dual-access, list-loaded, list-arriving, multiple-made, multiple-access};
+ghost use Rattle.machine.specs.Access.{storing, based, arriving, access-made, access-done, access-effect, indexed-access-effect, dual-made, dual-access-effect, list-loaded, list-arriving, multiple-made, multiple-access-effect};
 ghost use Rattle.word.specs.Choice.{if_then_else_};
 ghost use Rattle.memory.specs.Memory.{loaded};
-ghost use Rattle.machine.specs.Machine.{written};
+ghost use Rattle.machine.specs.Machine.{written, landed, keeping};
 use crate::Machine;
 use crate::Stepped;
-use memory::Setup;
 use record::AccessFields;
 use record::DualAccessFields;
 use record::IndexedAccessFields;
 use record::MultipleAccessFields;
 use record::op::AccessOp;
 use record::op::Mode;
+use setup::Setup;
+use transfer::Alignment;
 
 // A value for R15 must have bit 0 set.
 pub fn land(m: Machine, next: Machine, value: u32) -> Stepped
-    ensures { λ r. ⌜ r ≡ lands m next value ⌝ }
+    ensures { λ r. ⌜ r ≡ landed m next value ⌝ }
 {
     let odd = word::bit_of(0, value);
     if odd {
@@ -82,8 +83,8 @@ fn do_access(
 ) -> Stepped
     ensures { λ r. ⌜ keeping r (now (memory .exit)) ≡ access-done m back op rt address (now (memory .entry)) setup ⌝ }
 {
-    let aligned = record::op::is_ldr_of(op) & (rt == Machine::PC);
-    let refusal = transfer::refusal_of(aligned, transfer::width_of(op), setup, memory, address);
+    let wanted = transfer::alignment_of(op, rt == Machine::PC);
+    let refusal = transfer::refusal_of(wanted, transfer::width_of(op), setup, memory, address);
     let fine = refusal == 0;
     if fine {
         return make_access(m, back, op, rt, address, memory, setup);
@@ -98,7 +99,7 @@ pub fn access_one(
     memory: &mut [u8],
     setup: Setup,
 ) -> Stepped
-    ensures { λ r. ⌜ keeping r (now (memory .exit)) ≡ access m next d (now (memory .entry)) setup ⌝ }
+    ensures { λ r. ⌜ keeping r (now (memory .exit)) ≡ access-effect m next d (now (memory .entry)) setup ⌝ }
 {
     let op = d.op;
     let mode = d.mode;
@@ -123,7 +124,7 @@ pub fn access_indexed(
     memory: &mut [u8],
     setup: Setup,
 ) -> Stepped
-    ensures { λ r. ⌜ keeping r (now (memory .exit)) ≡ indexed-access m next d (now (memory .entry)) setup ⌝ }
+    ensures { λ r. ⌜ keeping r (now (memory .exit)) ≡ indexed-access-effect m next d (now (memory .entry)) setup ⌝ }
 {
     let op = d.op;
     let offset = shift::lsl(m.operand(d.rm), d.amount as u32, false);
@@ -167,13 +168,13 @@ pub fn access_two(
     memory: &mut [u8],
     setup: Setup,
 ) -> Stepped
-    ensures { λ r. ⌜ keeping r (now (memory .exit)) ≡ dual-access m next d (now (memory .entry)) setup ⌝ }
+    ensures { λ r. ⌜ keeping r (now (memory .exit)) ≡ dual-access-effect m next d (now (memory .entry)) setup ⌝ }
 {
     let mode = d.mode;
     let base = m.base(d.rn);
     let to = transfer::moved_by(base, d.offset);
     let address = transfer::reached_of(mode, base, to);
-    let refusal = transfer::refusal_of(true, 8, setup, memory, address);
+    let refusal = transfer::refusal_of(Alignment::Word, 8, setup, memory, address);
     let fine = refusal == 0;
     if fine {
         return make_two(
@@ -258,13 +259,13 @@ pub fn access_many(
     memory: &mut [u8],
     setup: Setup,
 ) -> Stepped
-    ensures { λ r. ⌜ keeping r (now (memory .exit)) ≡ multiple-access m next d (now (memory .entry)) setup ⌝ }
+    ensures { λ r. ⌜ keeping r (now (memory .exit)) ≡ multiple-access-effect m next d (now (memory .entry)) setup ⌝ }
 {
     let op = d.op;
     let base = m.register(d.rn);
     let size = transfer::list_size_of(d.list);
-    let low = transfer::lowest_of(op, base, size);
-    let refusal = transfer::refusal_of(true, size, setup, memory, low);
+    let low = transfer::lowest_address_of(op, base, size);
+    let refusal = transfer::refusal_of(Alignment::Word, size, setup, memory, low);
     let fine = refusal == 0;
     if fine {
         let back = write_list_base(next, d, transfer::new_base_of(op, base, size));

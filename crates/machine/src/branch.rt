@@ -1,8 +1,7 @@
 // Kinds 11 to 13: m is the machine before, from which all is read, next the machine at the next record.
 
 ghost use mathlib.Core.Path.{_≡_};
-ghost use Rattle.machine.specs.Branch.{linking, direct-target, branch, register-branch, branches, compare-branch};
-ghost use Rattle.machine.specs.Machine.{done};
+ghost use Rattle.machine.specs.Branch.{linking, direct-target, branch-effect, register-branch-effect, branches, compare-branch-effect};
 use crate::Machine;
 use crate::Stepped;
 use record::BranchFields;
@@ -10,6 +9,7 @@ use record::CompareBranchFields;
 use record::Record;
 use record::RegisterBranchFields;
 use record::op::CompareOp;
+use setup::Setup;
 
 fn link_if(next: Machine, links: bool) -> Machine
     ensures { λ r. ⌜ r ≡ linking next links ⌝ }
@@ -26,16 +26,21 @@ fn direct_target_of(m: Machine, r: Record) -> u32
     flow::target_of(m.register(Machine::PC), flow::way_of(r))
 }
 
-pub fn branch_off(m: Machine, next: Machine, d: BranchFields) -> Stepped
-    ensures { λ r. ⌜ r ≡ done (branch m next d) ⌝ }
+pub fn branch_off(m: Machine, next: Machine, d: BranchFields, setup: Setup) -> Stepped
+    ensures { λ r. ⌜ r ≡ branch-effect m next d setup ⌝ }
 {
     let op = d.op;
     let to = direct_target_of(m, Record::Branch(d));
     crate::finish(link_if(next, record::op::is_bl_of(op)).write(Machine::PC, to))
 }
 
-pub fn branch_to_register(m: Machine, next: Machine, d: RegisterBranchFields) -> Stepped
-    ensures { λ r. ⌜ r ≡ register-branch m next d ⌝ }
+pub fn branch_to_register(
+    m: Machine,
+    next: Machine,
+    d: RegisterBranchFields,
+    setup: Setup,
+) -> Stepped
+    ensures { λ r. ⌜ r ≡ register-branch-effect m next d setup ⌝ }
 {
     let op = d.op;
     let to = m.operand(d.rm);
@@ -52,8 +57,13 @@ fn branches_of(op: CompareOp, x: u32) -> bool
     }
 }
 
-pub fn compare_and_branch(m: Machine, next: Machine, d: CompareBranchFields) -> Stepped
-    ensures { λ r. ⌜ r ≡ done (compare-branch m next d) ⌝ }
+pub fn compare_and_branch(
+    m: Machine,
+    next: Machine,
+    d: CompareBranchFields,
+    setup: Setup,
+) -> Stepped
+    ensures { λ r. ⌜ r ≡ compare-branch-effect m next d setup ⌝ }
 {
     let op = d.op;
     let goes = branches_of(op, m.register(d.rn));

@@ -1,8 +1,7 @@
 // Kinds 01 to 0C: m is the machine before, from which all is read, next the machine at the next record.
 
 ghost use mathlib.Core.Path.{_≡_};
-ghost use Rattle.machine.specs.Compute.{flagged, resulting, data-done, shifted-register, constant-data, register-amount, register-shift, add-number, move-number, turn-done, multiply-done, long-multiply, divide-done, saturate-done, bit-field, extend-done};
-ghost use Rattle.machine.specs.Machine.{settled};
+ghost use Rattle.machine.specs.Compute.{flagged, resulting, data-done, register-amount, shifted-register-effect, constant-effect, register-shift-effect, add-number-effect, move-number-effect, unary-effect, multiply-effect, long-multiply-effect, divide-effect, saturate-effect, bit-field-effect, extend-effect};
 use crate::Machine;
 use crate::Stepped;
 use product::Long;
@@ -17,8 +16,9 @@ use record::MultiplyFields;
 use record::RegisterShiftFields;
 use record::SaturateFields;
 use record::ShiftedRegisterFields;
-use record::TurnFields;
+use record::UnaryFields;
 use record::op::DataOp;
+use setup::Setup;
 use shift::Shifted;
 use sum::Sum;
 
@@ -50,8 +50,8 @@ fn operate(m: Machine, next: Machine, op: DataOp, s: bool, rd: u8, x: u32, y: Sh
     set_flags(put_result(next, op, rd, result), s, result)
 }
 
-pub fn shift_register(m: Machine, next: Machine, d: ShiftedRegisterFields) -> Stepped
-    ensures { λ r. ⌜ r ≡ settled m (shifted-register m next d) ⌝ }
+pub fn shift_register(m: Machine, next: Machine, d: ShiftedRegisterFields, setup: Setup) -> Stepped
+    ensures { λ r. ⌜ r ≡ shifted-register-effect m next d setup ⌝ }
 {
     let op = d.op;
     let shift = d.shift;
@@ -59,8 +59,8 @@ pub fn shift_register(m: Machine, next: Machine, d: ShiftedRegisterFields) -> St
     crate::settle(m, operate(m, next, op, d.form.s, d.rd, m.operand(d.rn), y))
 }
 
-pub fn operate_constant(m: Machine, next: Machine, d: ConstantFields) -> Stepped
-    ensures { λ r. ⌜ r ≡ settled m (constant-data m next d) ⌝ }
+pub fn operate_constant(m: Machine, next: Machine, d: ConstantFields, setup: Setup) -> Stepped
+    ensures { λ r. ⌜ r ≡ constant-effect m next d setup ⌝ }
 {
     let op = d.op;
     let y = operate::constant_operand_of(d.constant, m.flags.c);
@@ -74,8 +74,8 @@ fn register_amount_of(rs: u32) -> u32
     rs
 }
 
-pub fn shift_by_register(m: Machine, next: Machine, d: RegisterShiftFields) -> Stepped
-    ensures { λ r. ⌜ r ≡ settled m (register-shift m next d) ⌝ }
+pub fn shift_by_register(m: Machine, next: Machine, d: RegisterShiftFields, setup: Setup) -> Stepped
+    ensures { λ r. ⌜ r ≡ register-shift-effect m next d setup ⌝ }
 {
     let shift = d.shift;
     let amount = register_amount_of(m.operand(d.rs));
@@ -83,8 +83,8 @@ pub fn shift_by_register(m: Machine, next: Machine, d: RegisterShiftFields) -> S
     crate::settle(m, operate(m, next, DataOp::Mov, d.form.s, d.rd, 0, y))
 }
 
-pub fn add_a_number(m: Machine, next: Machine, d: AddNumberFields) -> Stepped
-    ensures { λ r. ⌜ r ≡ settled m (add-number m next d) ⌝ }
+pub fn add_a_number(m: Machine, next: Machine, d: AddNumberFields, setup: Setup) -> Stepped
+    ensures { λ r. ⌜ r ≡ add-number-effect m next d setup ⌝ }
 {
     let op = d.op;
     crate::settle(
@@ -93,8 +93,8 @@ pub fn add_a_number(m: Machine, next: Machine, d: AddNumberFields) -> Stepped
     )
 }
 
-pub fn move_a_number(m: Machine, next: Machine, d: MoveNumberFields) -> Stepped
-    ensures { λ r. ⌜ r ≡ settled m (move-number m next d) ⌝ }
+pub fn move_a_number(m: Machine, next: Machine, d: MoveNumberFields, setup: Setup) -> Stepped
+    ensures { λ r. ⌜ r ≡ move-number-effect m next d setup ⌝ }
 {
     let op = d.op;
     crate::settle(
@@ -103,15 +103,15 @@ pub fn move_a_number(m: Machine, next: Machine, d: MoveNumberFields) -> Stepped
     )
 }
 
-pub fn turn(m: Machine, next: Machine, d: TurnFields) -> Stepped
-    ensures { λ r. ⌜ r ≡ settled m (turn-done m next d) ⌝ }
+pub fn operate_unary(m: Machine, next: Machine, d: UnaryFields, setup: Setup) -> Stepped
+    ensures { λ r. ⌜ r ≡ unary-effect m next d setup ⌝ }
 {
     let op = d.op;
-    crate::settle(m, next.write(d.rd, operate::turn(op, m.operand(d.rm))))
+    crate::settle(m, next.write(d.rd, operate::unary(op, m.operand(d.rm))))
 }
 
-pub fn multiply(m: Machine, next: Machine, d: MultiplyFields) -> Stepped
-    ensures { λ r. ⌜ r ≡ settled m (multiply-done m next d) ⌝ }
+pub fn multiply(m: Machine, next: Machine, d: MultiplyFields, setup: Setup) -> Stepped
+    ensures { λ r. ⌜ r ≡ multiply-effect m next d setup ⌝ }
 {
     let op = d.op;
     let value = operate::multiply(op, m.operand(d.rn), m.operand(d.rm), m.operand(d.ra));
@@ -124,8 +124,8 @@ pub fn multiply(m: Machine, next: Machine, d: MultiplyFields) -> Stepped
     crate::settle(m, after)
 }
 
-pub fn multiply_long(m: Machine, next: Machine, d: LongMultiplyFields) -> Stepped
-    ensures { λ r. ⌜ r ≡ settled m (long-multiply m next d) ⌝ }
+pub fn multiply_long(m: Machine, next: Machine, d: LongMultiplyFields, setup: Setup) -> Stepped
+    ensures { λ r. ⌜ r ≡ long-multiply-effect m next d setup ⌝ }
 {
     let op = d.op;
     let before = Long {
@@ -136,8 +136,8 @@ pub fn multiply_long(m: Machine, next: Machine, d: LongMultiplyFields) -> Steppe
     crate::settle(m, next.write(d.low, result.low).write(d.high, result.high))
 }
 
-pub fn divide(m: Machine, next: Machine, d: DivideFields) -> Stepped
-    ensures { λ r. ⌜ r ≡ settled m (divide-done m next d) ⌝ }
+pub fn divide(m: Machine, next: Machine, d: DivideFields, setup: Setup) -> Stepped
+    ensures { λ r. ⌜ r ≡ divide-effect m next d setup ⌝ }
 {
     let op = d.op;
     crate::settle(
@@ -146,8 +146,8 @@ pub fn divide(m: Machine, next: Machine, d: DivideFields) -> Stepped
     )
 }
 
-pub fn saturate(m: Machine, next: Machine, d: SaturateFields) -> Stepped
-    ensures { λ r. ⌜ r ≡ settled m (saturate-done m next d) ⌝ }
+pub fn saturate(m: Machine, next: Machine, d: SaturateFields, setup: Setup) -> Stepped
+    ensures { λ r. ⌜ r ≡ saturate-effect m next d setup ⌝ }
 {
     let op = d.op;
     let shift = d.shift;
@@ -158,8 +158,8 @@ pub fn saturate(m: Machine, next: Machine, d: SaturateFields) -> Stepped
     crate::settle(m, after.with_flags(flags.with_saturation(result.saturated)))
 }
 
-pub fn set_field(m: Machine, next: Machine, d: BitFieldFields) -> Stepped
-    ensures { λ r. ⌜ r ≡ settled m (bit-field m next d) ⌝ }
+pub fn set_field(m: Machine, next: Machine, d: BitFieldFields, setup: Setup) -> Stepped
+    ensures { λ r. ⌜ r ≡ bit-field-effect m next d setup ⌝ }
 {
     let op = d.op;
     let value = operate::set_field(
@@ -172,8 +172,8 @@ pub fn set_field(m: Machine, next: Machine, d: BitFieldFields) -> Stepped
     crate::settle(m, next.write(d.rd, value))
 }
 
-pub fn extend(m: Machine, next: Machine, d: ExtendFields) -> Stepped
-    ensures { λ r. ⌜ r ≡ settled m (extend-done m next d) ⌝ }
+pub fn extend(m: Machine, next: Machine, d: ExtendFields, setup: Setup) -> Stepped
+    ensures { λ r. ⌜ r ≡ extend-effect m next d setup ⌝ }
 {
     let op = d.op;
     let value = operate::extend(op, m.operand(d.rm), d.rotation as u32);

@@ -6,13 +6,12 @@ pub mod compute;
 
 ghost use mathlib.Core.Path.{_≡_};
 ghost use Rattle.reading.specs.declared.Read.the-variants.{Is};
-ghost use Rattle.machine.specs.Machine.{fresh, held, operand-value, base-value, kept, written, with-flags, with-waiting, good, ruling, condition-passes, advanced, skipped, onward, refused, done, steady, settled};
-ghost use Rattle.machine.specs.Access.{keeping};
+ghost use Rattle.machine.specs.Machine.{fresh, held, operand-value, base-value, kept, written, with-flags, with-waiting, good, ruling, condition-passes, advanced, skipped, onward, refused, done, steady, settled, keeping};
 ghost use Rattle.machine.specs.Step.{effect, obeyed, considered, stepped};
 use flags::Flags;
-use memory::Setup;
 use reading::Read;
 use record::Record;
+use setup::Setup;
 use waiting::Waiting;
 
 pub struct Machine {
@@ -129,7 +128,7 @@ impl Machine {
     pub fn step(self, r: &[u8], memory: &mut [u8], setup: Setup) -> Stepped
         ensures { λ t. ⌜ keeping t (now (memory .exit)) ≡ stepped self (now (r .entry)) (now (memory .entry)) setup ⌝ }
     {
-        let fine = self.is_good() & memory::is_fit(memory, setup);
+        let fine = self.is_good() & setup::is_fit(memory, setup);
         if fine {
             let Read::Is(found) = reading::read_all(r) else {
                 return refuse(2, self);
@@ -222,25 +221,25 @@ fn take_effect(m: Machine, next: Machine, r: Record, memory: &mut [u8], setup: S
     ensures { λ t. ⌜ keeping t (now (memory .exit)) ≡ effect m next r (now (memory .entry)) setup ⌝ }
 {
     match r {
-        Record::ShiftedRegister(d) => compute::shift_register(m, next, d),
-        Record::Constant(d) => compute::operate_constant(m, next, d),
-        Record::RegisterShift(d) => compute::shift_by_register(m, next, d),
-        Record::AddNumber(d) => compute::add_a_number(m, next, d),
-        Record::MoveNumber(d) => compute::move_a_number(m, next, d),
-        Record::Turn(d) => compute::turn(m, next, d),
-        Record::Multiply(d) => compute::multiply(m, next, d),
-        Record::LongMultiply(d) => compute::multiply_long(m, next, d),
-        Record::Divide(d) => compute::divide(m, next, d),
-        Record::Saturate(d) => compute::saturate(m, next, d),
-        Record::BitField(d) => compute::set_field(m, next, d),
-        Record::Extend(d) => compute::extend(m, next, d),
+        Record::ShiftedRegister(d) => compute::shift_register(m, next, d, setup),
+        Record::Constant(d) => compute::operate_constant(m, next, d, setup),
+        Record::RegisterShift(d) => compute::shift_by_register(m, next, d, setup),
+        Record::AddNumber(d) => compute::add_a_number(m, next, d, setup),
+        Record::MoveNumber(d) => compute::move_a_number(m, next, d, setup),
+        Record::Unary(d) => compute::operate_unary(m, next, d, setup),
+        Record::Multiply(d) => compute::multiply(m, next, d, setup),
+        Record::LongMultiply(d) => compute::multiply_long(m, next, d, setup),
+        Record::Divide(d) => compute::divide(m, next, d, setup),
+        Record::Saturate(d) => compute::saturate(m, next, d, setup),
+        Record::BitField(d) => compute::set_field(m, next, d, setup),
+        Record::Extend(d) => compute::extend(m, next, d, setup),
         Record::Access(d) => access::access_one(m, next, d, memory, setup),
         Record::IndexedAccess(d) => access::access_indexed(m, next, d, memory, setup),
         Record::DualAccess(d) => access::access_two(m, next, d, memory, setup),
         Record::MultipleAccess(d) => access::access_many(m, next, d, memory, setup),
-        Record::Branch(d) => branch::branch_off(m, next, d),
-        Record::RegisterBranch(d) => branch::branch_to_register(m, next, d),
-        Record::CompareBranch(d) => branch::compare_and_branch(m, next, d),
+        Record::Branch(d) => branch::branch_off(m, next, d, setup),
+        Record::RegisterBranch(d) => branch::branch_to_register(m, next, d, setup),
+        Record::CompareBranch(d) => branch::compare_and_branch(m, next, d, setup),
         Record::IfThen(_) => finish(next),
         Record::Nop(_) => finish(next),
     }

@@ -1,20 +1,21 @@
 -- Accesses, over their width.
 use Prim.Native.Nat.{ℕ, zero, suc, _+_, _-_, _*_, _/_, _%_, _^_, _≤_, _<_}
-use mathlib.Core.Path.{_≡_, refl, sym, _∙_}
+use mathlib.Core.Path.{_≡_, refl, sym, ap, _∙_}
 use mathlib.Core.Bool.{Bool, true, false}
 use mathlib.Core.List.{List}
 use native.Mathlib.Omega.{arith}
-use native.Mathlib.Nat.{add-zero, mul-zero, mul-add, add-comm, mul-comm, mul-left-comm}
+use native.Mathlib.Nat.{add-zero}
 use lib.Dec.{ltb}
 use lib.ListN.{length, set, length-set, List·getD-eq-default}
-use lib.Bits.{bitOr, or-shifted}
-use lib.Pow.{pow-add, shr-shr}
+use lib.Bits.{bitOr}
+use lib.Pow.{shr-shr}
 use borrow.Author.Tests.{le-leb, lt-leb, lt-ltb, le-ltb}
 use Rattle.word.specs.Choice.{if_then_else_}
 use Rattle.word.proofs.Cases.{cases, yes-or-no, le-or-gt, ltb-both}
 use Rattle.little.specs.Little.{byte}
-use Rattle.memory.specs.declared.Setup.{Setup}
-use Rattle.memory.specs.Memory.{fits, further, holds, inside, byte-at, loaded, put-byte, stored}
+use Rattle.little.proofs.Laws.{joined}
+use Rattle.setup.specs.declared.Setup.{Setup}
+use Rattle.memory.specs.Memory.{further, holds, inside, byte-at, loaded, put-byte, stored}
 
 below : (setup : Setup) (size a : ℕ) → a < setup .base → holds setup size a ≡ false
 below setup size a h = rw (lt-leb (setup .base) a h)
@@ -76,37 +77,16 @@ run-inside (suc n) setup size a h k l =
       lt-ltb (a + n) (setup .base + size) (omega arith),
     )
 
-loaded-wrapped : (count : ℕ) (setup : Setup) (bytes : List ℕ) (a : ℕ) → loaded count setup bytes (a % 2 ^ 32) ≡ loaded count setup bytes a
-unfolding loaded
-loaded-wrapped zero setup bytes a = refl
-loaded-wrapped (suc n) setup bytes a =
-    let e : (a % 2 ^ 32 + n) % 2 ^ 32 ≡ (a + n) % 2 ^ 32 = omega arith in
-    rw (loaded-wrapped n setup bytes a, e)
-
-regroup : (l p x b q : ℕ) → l + p * x + b * (p * q) ≡ l + p * (x + b * q)
-regroup l p x b q = rw (mul-add p x (b * q), mul-left-comm p b q) (omega arith)
-
--- j bytes, and k above them
-loaded-join : (j k : ℕ) (setup : Setup) (bytes : List ℕ) (a : ℕ)
-    → loaded (j + k) setup bytes a ≡ loaded j setup bytes a + 2 ^ (8 * j) * loaded k setup bytes (a + j)
-unfolding loaded
-loaded-join j zero setup bytes a = rw (add-zero j, mul-zero (2 ^ (8 * j))) (omega arith)
-loaded-join j (suc k) setup bytes a =
-    let e : j + suc k ≡ suc (j + k) = omega arith in
-    let f : a + (j + k) ≡ a + j + k = omega arith in
-    let g : 8 * (j + k) ≡ 8 * j + 8 * k = omega arith in
-    let p = 2 ^ (8 * j) in
-    let b = byte-at setup bytes (further (a + j) k) in
-    rw (e, loaded-join j k setup bytes a, f, g, pow-add 2 (8 * j) (8 * k))
-    (regroup (loaded j setup bytes a) p (loaded k setup bytes (a + j)) b (2 ^ (8 * k)))
-
 -- two accesses of k bytes, one above the other
-pub joined : (k : ℕ) (setup : Setup) (bytes : List ℕ) (a low high : ℕ)
+pub joined-loads : (k : ℕ) (setup : Setup) (bytes : List ℕ) (a low high : ℕ)
     → low ≡ loaded k setup bytes a → high ≡ loaded k setup bytes (further a k) → low < 2 ^ (8 * k)
     → bitOr (high * 2 ^ (8 * k)) low ≡ loaded (k + k) setup bytes a
-joined k setup bytes a low high l h small =
-    rw (or-shifted high (8 * k) low small, loaded-join k k setup bytes a, ← loaded-wrapped k setup bytes (a + k), ← h, ← l, mul-comm high (2 ^ (8 * k)))
-    (add-comm (2 ^ (8 * k) * high) low)
+unfolding loaded
+joined-loads k setup bytes a =
+    joined k (λ i. byte-at setup bytes (further a i)) (λ i. byte-at setup bytes (further (further a k) i)) (λ i. ap (byte-at setup bytes) (on i))
+  where
+    on : (i : ℕ) → further a (k + i) ≡ further (further a k) i
+    on i = omega arith
 
 stored-wrapped : (count : ℕ) (setup : Setup) (bytes : List ℕ) (a v : ℕ) → stored count setup bytes (a % 2 ^ 32) v ≡ stored count setup bytes a v
 unfolding stored
@@ -144,7 +124,3 @@ pub stored-length : (count : ℕ) (setup : Setup) (bytes : List ℕ) (a v : ℕ)
 unfolding stored
 stored-length zero setup bytes a v = refl
 stored-length (suc n) setup bytes a v = put-length setup (stored n setup bytes a v) _ _ ∙ stored-length n setup bytes a v
-
-pub fits-as-long : (setup : Setup) (a b : List ℕ) → length b ≡ length a → fits setup a ≡ true → fits setup b ≡ true
-unfolding fits
-fits-as-long setup a b e f = rw e f

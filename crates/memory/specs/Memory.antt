@@ -1,16 +1,12 @@
--- "Memory is one lent buffer of 0 to 1,048,576 bytes with a base address, little-endian."
+-- Memory: "one lent buffer .. with a base address, little-endian".
 use Prim.Native.Nat.{ℕ, zero, suc, _+_, _-_, _*_, _/_, _%_, _^_}
 use mathlib.Core.Bool.{Bool, true, _&&_}
 use mathlib.Core.List.{List}
 use lib.Dec.{leb, ltb}
 use lib.ListN.{length, set}
 use Rattle.word.specs.Choice.{if_then_else_}
-use Rattle.little.specs.Little.{byte}
-use Rattle.memory.specs.declared.Setup.{Setup}
-
--- else number 1: "memory over its limit or past 2^32"
-unfoldable pub fits : Setup → List ℕ → Bool
-fits setup bytes = leb (length bytes) 1048576 && leb (setup .base + length bytes) (2 ^ 32)
+use Rattle.little.specs.Little.{byte, little}
+use Rattle.setup.specs.declared.Setup.{Setup}
 
 -- the address of the byte i further: "Address sums in a step .. are taken modulo 2^32"
 abbrev pub further : ℕ → ℕ → ℕ
@@ -29,10 +25,9 @@ inside (suc i) setup size address = inside i setup size address && holds setup s
 unfoldable pub byte-at : Setup → List ℕ → ℕ → ℕ
 byte-at setup bytes address = if holds setup (length bytes) address then byte bytes (address - setup .base) else 0
 
--- the number in `count` bytes from an address on, the lowest byte first
+-- the number in `count` bytes from an address on
 unfoldable pub loaded : ℕ → Setup → List ℕ → ℕ → ℕ
-loaded zero setup bytes address = 0
-loaded (suc i) setup bytes address = loaded i setup bytes address + byte-at setup bytes (further address i) * 2 ^ (8 * i)
+loaded count setup bytes address = little count (λ i. byte-at setup bytes (further address i))
 
 -- memory with a byte at an address; as it was where memory has none
 unfoldable pub put-byte : Setup → List ℕ → ℕ → ℕ → List ℕ

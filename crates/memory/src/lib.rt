@@ -2,20 +2,8 @@
 
 ghost use mathlib.Core.Path.{_≡_};
 ghost use lib.ListN.{length};
-ghost use Rattle.memory.specs.Memory.{fits, holds, inside, byte-at, put-byte, loaded, stored};
-
-// What is fixed for a rehearsal.
-pub struct Setup {
-    pub base: u32,
-}
-
-// Is memory within its limit and not past 2^32?
-pub fn is_fit(memory: &[u8], setup: Setup) -> bool
-    ensures { λ r. ⌜ r ≡ fits setup (now (memory .entry)) ⌝ }
-{
-    let size = memory.len();
-    (size <= 1_048_576) & (setup.base as usize + size <= 0x1_0000_0000)
-}
+ghost use Rattle.memory.specs.Memory.{holds, inside, byte-at, put-byte, loaded, stored};
+use setup::Setup;
 
 fn is_held(size: usize, setup: Setup, address: u32) -> bool
     ensures { λ r. ⌜ r ≡ holds setup size address ⌝ }

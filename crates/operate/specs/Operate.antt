@@ -23,8 +23,8 @@ use Rattle.record.specs.declared.op.AddOp.{AddOp}
 use Rattle.record.specs.declared.op.AddOp.the-variants.{Addw, Subw}
 use Rattle.record.specs.declared.op.MoveOp.{MoveOp}
 use Rattle.record.specs.declared.op.MoveOp.the-variants.{Movw, Movt}
-use Rattle.record.specs.declared.op.TurnOp.{TurnOp}
-use Rattle.record.specs.declared.op.TurnOp.the-variants.{Clz, Rev, Rev16, Revsh, Rbit}
+use Rattle.record.specs.declared.op.UnaryOp.{UnaryOp}
+use Rattle.record.specs.declared.op.UnaryOp.the-variants.{Clz, Rev, Rev16, Revsh, Rbit}
 use Rattle.record.specs.declared.op.MultiplyOp.{MultiplyOp}
 use Rattle.record.specs.declared.op.MultiplyOp.the-variants.{Mul, Mla, Mls}
 use Rattle.record.specs.declared.op.LongOp.{LongOp}
@@ -86,12 +86,12 @@ placed-number Movw d number = number
 placed-number Movt d number = number * 2 ^ 16 + d % 2 ^ 16
 
 -- kind 06
-unfoldable pub turned : TurnOp → ℕ → ℕ
-turned Clz x = CLZ x
-turned Rev x = REV x
-turned Rev16 x = REV16 x
-turned Revsh x = REVSH x
-turned Rbit x = RBIT x
+unfoldable pub unary-result : UnaryOp → ℕ → ℕ
+unary-result Clz x = CLZ x
+unary-result Rev x = REV x
+unary-result Rev16 x = REV16 x
+unary-result Revsh x = REVSH x
+unary-result Rbit x = RBIT x
 
 -- kind 07: a is Ra
 unfoldable pub multiplied : MultiplyOp → ℕ → ℕ → ℕ → ℕ

@@ -1,7 +1,7 @@
 // What the operations of kinds 01 to 0C make of their operands.
 
 ghost use mathlib.Core.Path.{_≡_};
-ghost use Rattle.operate.specs.Operate.{shifter, constant-operand, logical, operated, added, placed-number, turned, multiplied, multiplied-long, divided, saturation, saturated, fielded, extended};
+ghost use Rattle.operate.specs.Operate.{shifter, constant-operand, logical, operated, added, placed-number, unary-result, multiplied, multiplied-long, divided, saturation, saturated, fielded, extended};
 use product::Long;
 use record::op::AddOp;
 use record::op::DataOp;
@@ -13,7 +13,7 @@ use record::op::MoveOp;
 use record::op::MultiplyOp;
 use record::op::SaturateOp;
 use record::op::Shift;
-use record::op::TurnOp;
+use record::op::UnaryOp;
 use saturate::Saturated;
 use shift::Shifted;
 use sum::Sum;
@@ -102,15 +102,15 @@ pub fn place_number(op: MoveOp, d: u32, number: u16) -> u32
     }
 }
 
-pub fn turn(op: TurnOp, x: u32) -> u32
-    ensures { λ r. ⌜ r ≡ turned op x ⌝ }
+pub fn unary(op: UnaryOp, x: u32) -> u32
+    ensures { λ r. ⌜ r ≡ unary-result op x ⌝ }
 {
     match op {
-        TurnOp::Clz => reverse::clz(x),
-        TurnOp::Rev => reverse::rev(x),
-        TurnOp::Rev16 => reverse::rev16(x),
-        TurnOp::Revsh => reverse::revsh(x),
-        TurnOp::Rbit => reverse::rbit(x),
+        UnaryOp::Clz => reverse::clz(x),
+        UnaryOp::Rev => reverse::rev(x),
+        UnaryOp::Rev16 => reverse::rev16(x),
+        UnaryOp::Revsh => reverse::revsh(x),
+        UnaryOp::Rbit => reverse::rbit(x),
     }
 }
 

@@ -16,8 +16,8 @@ use Rattle.flags.specs.declared.Flags.{Flags}
 use Rattle.flags.specs.Flags.{passes}
 use Rattle.waiting.specs.Waiting.{none, waiting-count, dropped}
 use Rattle.waiting.proofs.Laws.{first-none}
-use Rattle.memory.specs.declared.Setup.{Setup}
-use Rattle.memory.specs.Memory.{fits}
+use Rattle.setup.specs.declared.Setup.{Setup}
+use Rattle.setup.specs.Setup.{fits}
 use Rattle.record.specs.declared.IfThenFields.{IfThenFields}
 use Rattle.record.specs.declared.Record.{Record}
 use Rattle.record.specs.declared.Record.the-variants.{IfThen}
@@ -29,8 +29,7 @@ use Rattle.reading.specs.Reading.{read-one}
 use Rattle.judge.specs.Judge.{refusal}
 use Rattle.judge.proofs.Laws.{not-refused}
 use Rattle.machine.specs.declared.Machine.{Machine}
-use Rattle.machine.specs.Machine.{PC, held, kept, written, with-flags, with-waiting, good, ruling, condition-passes, advanced, onward, skipped, refused, done, steady}
-use Rattle.machine.specs.Access.{Outcome, keeping}
+use Rattle.machine.specs.Machine.{PC, held, kept, written, with-flags, with-waiting, good, ruling, condition-passes, advanced, onward, skipped, refused, done, steady, Outcome, keeping}
 use Rattle.machine.specs.Step.{obeyed, considered, stepped}
 use Rattle.paper.proofs.Registers.{steady-onward, held-written, held-other, good-steady}
 use Rattle.paper.proofs.Holds.{obeyed-holds}

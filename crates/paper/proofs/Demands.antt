@@ -9,8 +9,8 @@ use lib.Dec.{eqb}
 use Rattle.word.proofs.Cases.{both-true, chosen}
 use Rattle.word.proofs.Sole.{one-outcome}
 use Rattle.waiting.specs.Waiting.{waiting-count}
-use Rattle.memory.specs.declared.Setup.{Setup}
-use Rattle.memory.specs.Memory.{fits}
+use Rattle.setup.specs.declared.Setup.{Setup}
+use Rattle.setup.specs.Setup.{fits}
 use Rattle.record.specs.declared.Record.{Record}
 use Rattle.reading.specs.declared.Read.{Read}
 use Rattle.reading.specs.declared.Read.the-variants.{Is, Refused}
@@ -18,8 +18,7 @@ use Rattle.reading.specs.Reading.{read-one}
 use Rattle.judge.specs.Judge.{refusal}
 use Rattle.judge.proofs.Laws.{refusal-low}
 use Rattle.machine.specs.declared.Machine.{Machine}
-use Rattle.machine.specs.Machine.{good, skipped, refused, done, steady}
-use Rattle.machine.specs.Access.{Outcome, keeping}
+use Rattle.machine.specs.Machine.{good, skipped, refused, done, steady, Outcome, keeping}
 use Rattle.machine.specs.Step.{obeyed, considered, stepped}
 use Rattle.paper.specs.Demands.{Unique, AsGiven, RefusedAsGiven}
 use Rattle.paper.proofs.Registers.{good-steady}

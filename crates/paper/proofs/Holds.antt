@@ -10,11 +10,11 @@ use lib.ListN.{length}
 use Rattle.word.specs.Choice.{if_then_else_}
 use Rattle.word.specs.Word.{bit}
 use Rattle.word.proofs.Cases.{chosen}
-use Rattle.memory.specs.declared.Setup.{Setup}
+use Rattle.setup.specs.declared.Setup.{Setup}
 use Rattle.memory.specs.Memory.{inside}
 use Rattle.memory.proofs.Laws.{stored-length}
 use Rattle.register_list.specs.List.{member}
-use Rattle.record.specs.Op.{loads, loads-dual, loads-many, is-ldr, is-bl, is-blx}
+use Rattle.record.specs.Op.{loads, loads-dual, loads-many, is-bl, is-blx}
 use Rattle.record.specs.declared.op.AccessOp.{AccessOp}
 use Rattle.record.specs.declared.AccessFields.{AccessFields}
 use Rattle.record.specs.declared.IndexedAccessFields.{IndexedAccessFields}
@@ -24,15 +24,17 @@ use Rattle.record.specs.declared.BranchFields.{BranchFields}
 use Rattle.record.specs.declared.RegisterBranchFields.{RegisterBranchFields}
 use Rattle.record.specs.declared.CompareBranchFields.{CompareBranchFields}
 use Rattle.record.specs.declared.Record.{Record}
-use Rattle.record.specs.declared.Record.the-variants.{ShiftedRegister, Constant, RegisterShift, AddNumber, MoveNumber, Turn, Multiply, LongMultiply, Divide, Saturate, BitField, Extend, Access, IndexedAccess, DualAccess, MultipleAccess, Branch, RegisterBranch, CompareBranch, IfThen, Nop}
-use Rattle.transfer.specs.Transfer.{width, access-refusal}
+use Rattle.record.specs.declared.Record.the-variants.{ShiftedRegister, Constant, RegisterShift, AddNumber, MoveNumber, Unary, Multiply, LongMultiply, Divide, Saturate, BitField, Extend, Access, IndexedAccess, DualAccess, MultipleAccess, Branch, RegisterBranch, CompareBranch, IfThen, Nop}
+use Rattle.transfer.specs.declared.Alignment.{Alignment}
+use Rattle.transfer.specs.declared.Alignment.the-variants.{Word}
+use Rattle.transfer.specs.Transfer.{width, multiple, alignment, access-refusal}
 use Rattle.transfer.proofs.Lengths.{after-store-length, list-stored-length}
 use Rattle.machine.specs.declared.Machine.{Machine}
 use Rattle.machine.specs.declared.Stepped.{Stepped}
-use Rattle.machine.specs.Machine.{PC, held, written, condition-passes, onward, skipped, refused, done, steady, settled}
-use Rattle.machine.specs.Access.{Outcome, keeping, storing, lands, arriving, access-made, access-done, access, indexed-access, dual-made, dual-access, list-arriving, multiple-made, multiple-access}
-use Rattle.machine.specs.Branch.{direct-target, branch, register-branch, branches, compare-branch}
-use Rattle.machine.specs.Compute.{shifted-register, constant-data, register-shift, add-number, move-number, turn-done, multiply-done, long-multiply, divide-done, saturate-done, bit-field, extend-done}
+use Rattle.machine.specs.Machine.{PC, held, written, condition-passes, onward, skipped, refused, done, steady, settled, Outcome, keeping, landed}
+use Rattle.machine.specs.Access.{storing, arriving, access-made, access-done, access-effect, indexed-access-effect, dual-made, dual-access-effect, list-arriving, multiple-made, multiple-access-effect}
+use Rattle.machine.specs.Branch.{direct-target, branch-effect, register-branch-effect, branches, compare-branch-effect}
+use Rattle.machine.specs.Compute.{shifted-register-effect, constant-effect, register-shift-effect, add-number-effect, move-number-effect, unary-effect, multiply-effect, long-multiply-effect, divide-effect, saturate-effect, bit-field-effect, extend-effect}
 use Rattle.machine.specs.Step.{effect, obeyed}
 use Rattle.paper.proofs.Registers.{steady-written, steady-onward, steady-linking}
 use Rattle.paper.proofs.Writes.{Each, Kept, data-kept, based-kept, list-kept, linking-kept}
@@ -57,18 +59,18 @@ module _
     unfolding settled
     of-settled x q = chosen Answer (steady x) _ _ (λ e. ends .went x bytes q e refl) (λ e. seven)
 
-    of-lands : (x : Machine) (value : ℕ) → Q x → Answer (lands m x value)
-    unfolding lands
-    of-lands x value q = chosen Answer (bit 0 value) _ _ (λ e. of-settled x q) (λ e. seven)
+    of-landed : (x : Machine) (value : ℕ) → Q x → Answer (landed m x value)
+    unfolding landed
+    of-landed x value q = chosen Answer (bit 0 value) _ _ (λ e. of-settled x q) (λ e. seven)
 
     of-storing : (x : Machine) (after : List ℕ) → Q x → length after ≡ length bytes → P (storing m x bytes after)
     unfolding storing
     of-storing x after q l = chosen P (steady x) _ _ (λ e. ends .went x after q e l) (λ e. seven)
 
-    of-refusal : (aligned : Bool) (count address : ℕ) (a : Outcome) → P a
-        → let n = access-refusal aligned count setup (length bytes) address in P (if eqb n 0 then a else keeping (refused n m) bytes)
+    of-refusal : (wanted : Alignment) (count address : ℕ) (a : Outcome) → P a
+        → let n = access-refusal wanted count setup (length bytes) address in P (if eqb n 0 then a else keeping (refused n m) bytes)
     unfolding access-refusal
-    of-refusal aligned count address a p = go (aligned && not (eqb (address % 4) 0)) (inside count setup (length bytes) address)
+    of-refusal wanted count address a p = go (not (eqb (address % multiple wanted) 0)) (inside count setup (length bytes) address)
       where
         go : (t u : Bool) → let n : ℕ = if t then 5 else if u then 0 else 6 in P (if eqb n 0 then a else keeping (refused n m) bytes)
         go true u = ends .stop 5 (omega arith, omega arith)
@@ -79,57 +81,57 @@ module _
     unfolding arriving
     of-arriving back rt value w q =
         let to = keeps .write back rt value w q in
-        chosen Answer (eqb rt PC) _ _ (λ e. of-lands (written back rt value) value to) (λ e. of-settled (written back rt value) to)
+        chosen Answer (eqb rt PC) _ _ (λ e. of-landed (written back rt value) value to) (λ e. of-settled (written back rt value) to)
 
     of-access-done : (back : Machine) (op : AccessOp) (rt address : ℕ) → (loads op ≡ true → (v : ℕ) → W rt v) → Q back
         → P (access-done m back op rt address bytes setup)
     unfolding access-done access-made
     of-access-done back op rt address w q =
-        of-refusal (is-ldr op && eqb rt PC) (width op) address _
+        of-refusal (alignment op (eqb rt PC)) (width op) address _
         (chosen P (loads op) _ _
         (λ e. of-arriving back rt _ (w e _) q)
         (λ e. of-storing back _ q (after-store-length op setup bytes address (held m rt))))
 
-    of-access : (next : Machine) (d : AccessFields) → Each m W (Access d) → Q next → P (access m next d bytes setup)
-    unfolding access
+    of-access : (next : Machine) (d : AccessFields) → Each m W (Access d) → Q next → P (access-effect m next d bytes setup)
+    unfolding access-effect
     of-access next d w q = of-access-done _ (d .op) (d .rt) _ (w .0) (based-kept Q W keeps next (d .mode) (d .rn) _ (w .1) q)
 
-    of-indexed : (next : Machine) (d : IndexedAccessFields) → Each m W (IndexedAccess d) → Q next → P (indexed-access m next d bytes setup)
-    unfolding indexed-access
+    of-indexed : (next : Machine) (d : IndexedAccessFields) → Each m W (IndexedAccess d) → Q next → P (indexed-access-effect m next d bytes setup)
+    unfolding indexed-access-effect
     of-indexed next d w q = of-access-done next (d .op) (d .rt) _ w q
 
-    of-dual : (next : Machine) (d : DualAccessFields) → Each m W (DualAccess d) → Q next → P (dual-access m next d bytes setup)
-    unfolding dual-access dual-made
+    of-dual : (next : Machine) (d : DualAccessFields) → Each m W (DualAccess d) → Q next → P (dual-access-effect m next d bytes setup)
+    unfolding dual-access-effect dual-made
     of-dual next d w q =
         let back = based-kept Q W keeps next (d .mode) (d .rn) _ (w .2) q in
-        of-refusal true 8 _ _
+        of-refusal Word 8 _ _
         (chosen P (loads-dual (d .op)) _ _
         (λ e. of-settled _ (keeps .write _ (d .rt2) _ (w .1 _) (keeps .write _ (d .rt) _ (w .0 _) back)))
         (λ e. of-storing _ _ back (stored-length 4 setup _ _ _ ∙ stored-length 4 setup bytes _ _)))
 
-    of-multiple : (next : Machine) (d : MultipleAccessFields) → Each m W (MultipleAccess d) → Q next → P (multiple-access m next d bytes setup)
-    unfolding multiple-access multiple-made list-arriving
+    of-multiple : (next : Machine) (d : MultipleAccessFields) → Each m W (MultipleAccess d) → Q next → P (multiple-access-effect m next d bytes setup)
+    unfolding multiple-access-effect multiple-made list-arriving
     of-multiple next d w q =
         let back = chosen Q (d .writeback) _ _ (λ e. keeps .write next (d .rn) _ (w .1 e _) q) (λ e. q) in
-        of-refusal true _ _ _
+        of-refusal Word _ _ _
         (chosen P (loads-many (d .op)) _ _
         (λ e.
         let next = list-kept Q W keeps 16 _ (d .list) _ bytes setup (w .0 e) back in
-        chosen Answer (member (d .list) PC) _ _ (λ f. of-lands _ _ next) (λ f. of-settled _ next))
+        chosen Answer (member (d .list) PC) _ _ (λ f. of-landed _ _ next) (λ f. of-settled _ next))
         (λ e. of-storing _ _ back (list-stored-length 16 setup bytes (m .registers) (d .list) _)))
 
-    of-register-branch : (next : Machine) (d : RegisterBranchFields) → Each m W (RegisterBranch d) → Q next → Answer (register-branch m next d)
-    unfolding register-branch
-    of-register-branch next d w q = of-lands _ _ (keeps .write _ PC _ (w .1 _) (linking-kept Q W keeps next (is-blx (d .op)) (w .0) q))
+    of-register-branch : (next : Machine) (d : RegisterBranchFields) → Each m W (RegisterBranch d) → Q next → Answer (register-branch-effect m next d setup)
+    unfolding register-branch-effect
+    of-register-branch next d w q = of-landed _ _ (keeps .write _ PC _ (w .1 _) (linking-kept Q W keeps next (is-blx (d .op)) (w .0) q))
 
-    of-branch : (next : Machine) (d : BranchFields) → Each m W (Branch d) → steady next ≡ true → Q next → Answer (done (branch m next d))
-    unfolding branch
+    of-branch : (next : Machine) (d : BranchFields) → Each m W (Branch d) → steady next ≡ true → Q next → Answer (branch-effect m next d setup)
+    unfolding branch-effect
     of-branch next d w s q =
         ends .went _ bytes (keeps .write _ PC _ (w .1) (linking-kept Q W keeps next (is-bl (d .op)) (w .0) q))
         (steady-written _ PC _ (λ e. omega arith) ∙ (steady-linking next (is-bl (d .op)) ∙ s)) refl
 
-    of-compare : (next : Machine) (d : CompareBranchFields) → Each m W (CompareBranch d) → steady next ≡ true → Q next → Answer (done (compare-branch m next d))
-    unfolding compare-branch
+    of-compare : (next : Machine) (d : CompareBranchFields) → Each m W (CompareBranch d) → steady next ≡ true → Q next → Answer (compare-branch-effect m next d setup)
+    unfolding compare-branch-effect
     of-compare next d w s q = go (branches (d .op) (held m (d .rn)))
       where
         go : (t : Bool) → P (keeping (done (if t then written next PC (direct-target m (CompareBranch d)) else next)) bytes)
@@ -137,13 +139,13 @@ module _
         go false = ends .went next bytes q s refl
 
     of-effect : (next : Machine) (r : Record) → Each m W r → steady next ≡ true → Q next → P (effect m next r bytes setup)
-    unfolding effect shifted-register constant-data register-shift add-number move-number turn-done multiply-done long-multiply divide-done saturate-done bit-field extend-done
+    unfolding effect shifted-register-effect constant-effect register-shift-effect add-number-effect move-number-effect unary-effect multiply-effect long-multiply-effect divide-effect saturate-effect bit-field-effect extend-effect
     of-effect next (ShiftedRegister d) w s q = of-settled _ (data-kept Q W keeps m next (d .op) (d .form .s) (d .rd) _ _ w q)
     of-effect next (Constant d) w s q = of-settled _ (data-kept Q W keeps m next (d .op) (d .form .s) (d .rd) _ _ w q)
     of-effect next (RegisterShift d) w s q = of-settled _ (data-kept Q W keeps m next _ (d .form .s) (d .rd) _ _ (λ e. w) q)
     of-effect next (AddNumber d) w s q = of-settled _ (keeps .write next (d .rd) _ (w _) q)
     of-effect next (MoveNumber d) w s q = of-settled _ (keeps .write next (d .rd) _ (w _) q)
-    of-effect next (Turn d) w s q = of-settled _ (keeps .write next (d .rd) _ (w _) q)
+    of-effect next (Unary d) w s q = of-settled _ (keeps .write next (d .rd) _ (w _) q)
     of-effect next (Multiply d) w s q =
         let to = keeps .write next (d .rd) _ (w _) q in of-settled _ (chosen Q (d .form .s) _ _ (λ e. keeps .flag _ _ to) (λ e. to))
     of-effect next (LongMultiply d) w s q = of-settled _ (keeps .write _ (d .high) _ (w .1 _) (keeps .write next (d .low) _ (w .0 _) q))

@@ -13,7 +13,7 @@ use Rattle.record.specs.declared.op.AccessOp.{AccessOp}
 use Rattle.record.specs.declared.op.AccessOp.the-variants.{Ldr, Ldrb, Ldrh, Ldrsb, Ldrsh, Str, Strb, Strh}
 use Rattle.record.specs.declared.ShiftedRegisterFields.{ShiftedRegisterFields}
 use Rattle.record.specs.declared.Record.{Record}
-use Rattle.record.specs.declared.Record.the-variants.{ShiftedRegister, Constant, RegisterShift, AddNumber, MoveNumber, Turn, Multiply, LongMultiply, Divide, Saturate, BitField, Extend, Access, IndexedAccess, DualAccess, MultipleAccess, Branch, RegisterBranch, CompareBranch, IfThen, Nop}
+use Rattle.record.specs.declared.Record.the-variants.{ShiftedRegister, Constant, RegisterShift, AddNumber, MoveNumber, Unary, Multiply, LongMultiply, Divide, Saturate, BitField, Extend, Access, IndexedAccess, DualAccess, MultipleAccess, Branch, RegisterBranch, CompareBranch, IfThen, Nop}
 use Rattle.restricted.specs.Restricted.{allowed, plain, first-operand, transferred}
 use Rattle.flow.specs.Flow.{traits, way, target, to-pc, taken-if}
 use Rattle.flow.specs.declared.Way.{Way}
@@ -95,7 +95,7 @@ steered m (Constant d) h = λ l v. inl (λ e. false≢true (rw e at (second (fir
 steered m (RegisterShift d) h = λ v. inl (plain-off (d .rd) (first _ _ (first _ _ h)))
 steered m (AddNumber d) h = λ v. inl (λ e. false≢true (rw e at h))
 steered m (MoveNumber d) h = λ v. inl (plain-off (d .rd) h)
-steered m (Turn d) h = λ v. inl (plain-off (d .rd) (first _ _ h))
+steered m (Unary d) h = λ v. inl (plain-off (d .rd) (first _ _ h))
 steered m (Multiply d) h = λ v. inl (plain-off (d .rd) (first _ _ (first _ _ (first _ _ (first _ _ h)))))
 steered m (LongMultiply d) h =
     let both : (plain (d .low) && plain (d .high)) ≡ true = first _ _ (first _ _ (first _ _ h)) in

@@ -7,13 +7,13 @@ use lib.Dec.{ltb}
 use Rattle.word.proofs.Cases.{chosen}
 use Rattle.flags.specs.declared.Flags.{Flags}
 use Rattle.shift.specs.declared.Shifted.{Shifted}
-use Rattle.memory.specs.declared.Setup.{Setup}
+use Rattle.setup.specs.declared.Setup.{Setup}
 use Rattle.register_list.specs.List.{member}
 use Rattle.record.specs.Op.{data-code, loads, loads-many, is-offset}
 use Rattle.record.specs.declared.op.DataOp.{DataOp}
 use Rattle.record.specs.declared.op.Mode.{Mode}
 use Rattle.record.specs.declared.Record.{Record}
-use Rattle.record.specs.declared.Record.the-variants.{ShiftedRegister, Constant, RegisterShift, AddNumber, MoveNumber, Turn, Multiply, LongMultiply, Divide, Saturate, BitField, Extend, Access, IndexedAccess, DualAccess, MultipleAccess, Branch, RegisterBranch, CompareBranch, IfThen, Nop}
+use Rattle.record.specs.declared.Record.the-variants.{ShiftedRegister, Constant, RegisterShift, AddNumber, MoveNumber, Unary, Multiply, LongMultiply, Divide, Saturate, BitField, Extend, Access, IndexedAccess, DualAccess, MultipleAccess, Branch, RegisterBranch, CompareBranch, IfThen, Nop}
 use Rattle.machine.specs.declared.Machine.{Machine}
 use Rattle.machine.specs.Machine.{LR, PC, written, with-flags}
 use Rattle.machine.specs.Compute.{flagged, resulting, data-done}
@@ -27,7 +27,7 @@ Each m W (Constant d) = ltb (data-code (d .op)) 12 ≡ true → (v : ℕ) → W 
 Each m W (RegisterShift d) = (v : ℕ) → W (d .rd) v
 Each m W (AddNumber d) = (v : ℕ) → W (d .rd) v
 Each m W (MoveNumber d) = (v : ℕ) → W (d .rd) v
-Each m W (Turn d) = (v : ℕ) → W (d .rd) v
+Each m W (Unary d) = (v : ℕ) → W (d .rd) v
 Each m W (Multiply d) = (v : ℕ) → W (d .rd) v
 Each m W (LongMultiply d) = ((v : ℕ) → W (d .low) v) × ((v : ℕ) → W (d .high) v)
 Each m W (Divide d) = (v : ℕ) → W (d .rd) v
@@ -54,7 +54,7 @@ each m W w (Constant d) = λ e v. w _ v
 each m W w (RegisterShift d) = λ v. w _ v
 each m W w (AddNumber d) = λ v. w _ v
 each m W w (MoveNumber d) = λ v. w _ v
-each m W w (Turn d) = λ v. w _ v
+each m W w (Unary d) = λ v. w _ v
 each m W w (Multiply d) = λ v. w _ v
 each m W w (LongMultiply d) = (λ v. w _ v, λ v. w _ v)
 each m W w (Divide d) = λ v. w _ v

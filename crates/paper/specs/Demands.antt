@@ -3,9 +3,9 @@ use Prim.Native.Nat.{ℕ}
 use mathlib.Core.List.{List}
 use mathlib.Core.Path.{_≡_}
 use Rattle.word.specs.Sole.{Sole}
-use Rattle.memory.specs.declared.Setup.{Setup}
+use Rattle.setup.specs.declared.Setup.{Setup}
+use Rattle.machine.specs.Machine.{Outcome}
 use Rattle.machine.specs.declared.Machine.{Machine}
-use Rattle.machine.specs.Access.{Outcome}
 use Rattle.machine.specs.Step.{stepped}
 
 -- "any two outcomes allowed are equal": the contract of `step` says that its answer and the memory that it leaves are `stepped`

@@ -4,11 +4,11 @@ use mathlib.Core.Bool.{Bool, true, false}
 use mathlib.Core.List.{List, [], _∷_}
 use mathlib.Core.Path.{_≡_}
 use Rattle.flags.specs.declared.Flags.{Flags}
+use Rattle.flags.specs.Flags.{clear}
 use Rattle.waiting.specs.Waiting.{nothing}
-use Rattle.memory.specs.declared.Setup.{Setup}
+use Rattle.setup.specs.Setup.{at-base}
 use Rattle.machine.specs.declared.Machine.{Machine}
-use Rattle.machine.specs.Machine.{done}
-use Rattle.machine.specs.Access.{Outcome, keeping}
+use Rattle.machine.specs.Machine.{done, Outcome, keeping}
 use Rattle.machine.specs.Step.{stepped}
 
 -- a record, the machine before it and the machine after it
@@ -19,9 +19,6 @@ pub record Row : Type 0 where
 
 abbrev pub flags : Bool → Bool → Bool → Bool → Bool → Flags
 flags n z c v q = record { n = n; z = z; c = c; v = v; q = q }
-
-abbrev pub clear : Flags
-clear = flags false false false false false
 
 -- R0, R1, R2, R14 and R15; the other registers are 0, and nothing waits
 abbrev pub machine : ℕ → ℕ → ℕ → ℕ → ℕ → Flags → Machine
@@ -125,7 +122,7 @@ table = P1 ∷ P2 ∷ P3 ∷ P4 ∷ P5 ∷ P6 ∷ P7 ∷ P8 ∷ P9 ∷ P9-zero �
 -- the step is done, and gives the machine after it; memory is empty
 abbrev pub Gives : Row → Type 0
 Gives row =
-    let setup : Setup = record { base = 0x20000000 } in
+    let setup = at-base 0x20000000 in
     stepped (row .before) (row .bytes) [] setup ≡ keeping (done (row .after)) []
 
 -- every row of a table is as the step gives it

@@ -5,9 +5,9 @@ use mathlib.Core.Bool.{Bool, _&&_}
 use mathlib.Core.List.{List, [], _∷_, map}
 use lib.Dec.{eqb}
 use lib.ListN.{length, getD}
-use Rattle.little.specs.Little.{byte}
-use Rattle.kinds.specs.Kinds.{nine, listing-length, readings, nop, record-of}
-use Rattle.kinds.specs.Kinds.{shifted-register, constant, register-shift, add-number, move-number, turn, multiply, long-multiply, divide, saturate, bit-field, extend, access, indexed-access, dual-access, multiple-access, branch, register-branch, compare-branch, if-then}
+use Rattle.little.specs.Little.{byte, little}
+use Rattle.kinds.specs.Kinds.{nine, listing-length, readings, nop-from, record-of}
+use Rattle.kinds.specs.Kinds.{shifted-register-from, constant-from, register-shift-from, add-number-from, move-number-from, unary-from, multiply-from, long-multiply-from, divide-from, saturate-from, bit-field-from, extend-from, access-from, indexed-access-from, dual-access-from, multiple-access-from, branch-from, register-branch-from, compare-branch-from, if-then-from}
 use Rattle.reading.specs.Reading.{coded, named}
 
 -- a function of a table applied is an entry of the table of its values
@@ -17,8 +17,8 @@ getD-apply (f ∷ fs) zero d x = refl
 getD-apply (f ∷ fs) (suc k) d x = getD-apply fs k d x
 
 pub record-nine : (r : List ℕ) → record-of (nine r) ≡ record-of r
-unfolding record-of shifted-register constant register-shift add-number move-number turn multiply long-multiply divide saturate bit-field extend access indexed-access dual-access multiple-access branch register-branch compare-branch if-then
-record-nine r = getD-apply readings (byte r 0) nop (nine r) ∙ sym (getD-apply readings (byte r 0) nop r)
+unfolding little record-of shifted-register-from constant-from register-shift-from add-number-from move-number-from unary-from multiply-from long-multiply-from divide-from saturate-from bit-field-from extend-from access-from indexed-access-from dual-access-from multiple-access-from branch-from register-branch-from compare-branch-from if-then-from
+record-nine r = getD-apply readings (byte r 0) nop-from (nine r) ∙ sym (getD-apply readings (byte r 0) nop-from r)
 
 -- the test that the bytes are a whole record, as it is made of the nine
 pub whole : (r b : List ℕ) (size : ℕ) (n t : Bool) → b ≡ nine r → size ≡ listing-length (byte b 0) → n ≡ named b

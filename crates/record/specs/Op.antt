@@ -11,8 +11,8 @@ use Rattle.record.specs.declared.op.AddOp.{AddOp}
 use Rattle.record.specs.declared.op.AddOp.the-variants.{Addw, Subw}
 use Rattle.record.specs.declared.op.MoveOp.{MoveOp}
 use Rattle.record.specs.declared.op.MoveOp.the-variants.{Movw, Movt}
-use Rattle.record.specs.declared.op.TurnOp.{TurnOp}
-use Rattle.record.specs.declared.op.TurnOp.the-variants.{Clz, Rev, Rev16, Revsh, Rbit}
+use Rattle.record.specs.declared.op.UnaryOp.{UnaryOp}
+use Rattle.record.specs.declared.op.UnaryOp.the-variants.{Clz, Rev, Rev16, Revsh, Rbit}
 use Rattle.record.specs.declared.op.MultiplyOp.{MultiplyOp}
 use Rattle.record.specs.declared.op.MultiplyOp.the-variants.{Mul, Mla, Mls}
 use Rattle.record.specs.declared.op.LongOp.{LongOp}
@@ -52,8 +52,8 @@ add-op code = getD (Addw ∷ []) code Subw
 abbrev pub move-op : ℕ → MoveOp
 move-op code = getD (Movw ∷ []) code Movt
 
-abbrev pub turn-op : ℕ → TurnOp
-turn-op code = getD (Clz ∷ Rev ∷ Rev16 ∷ Revsh ∷ []) code Rbit
+abbrev pub unary-op : ℕ → UnaryOp
+unary-op code = getD (Clz ∷ Rev ∷ Rev16 ∷ Revsh ∷ []) code Rbit
 
 abbrev pub multiply-op : ℕ → MultiplyOp
 multiply-op code = getD (Mul ∷ Mla ∷ []) code Mls

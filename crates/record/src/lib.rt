@@ -19,7 +19,7 @@ use crate::op::MultiplyOp;
 use crate::op::RegisterOp;
 use crate::op::SaturateOp;
 use crate::op::Shift;
-use crate::op::TurnOp;
+use crate::op::UnaryOp;
 
 // The form byte: does it set the flags, and is it 4 machine bytes long and not 2?
 pub struct Form {
@@ -74,8 +74,8 @@ pub struct MoveNumberFields {
 }
 
 // 06
-pub struct TurnFields {
-    pub op: TurnOp,
+pub struct UnaryFields {
+    pub op: UnaryOp,
     pub form: Form,
     pub rd: u8,
     pub rm: u8,
@@ -217,7 +217,7 @@ pub enum Record {
     RegisterShift(RegisterShiftFields),
     AddNumber(AddNumberFields),
     MoveNumber(MoveNumberFields),
-    Turn(TurnFields),
+    Unary(UnaryFields),
     Multiply(MultiplyFields),
     LongMultiply(LongMultiplyFields),
     Divide(DivideFields),

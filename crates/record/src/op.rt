@@ -1,7 +1,7 @@
 // The operations, shifts and modes that a record names, each by the number that stands for it.
 
 ghost use mathlib.Core.Path.{_≡_};
-ghost use Rattle.record.specs.Op.{data-op, data-code, is-lsl, is-mul, loads, loads-dual, loads-many, is-bl, is-blx, is-offset, is-ldr, shift, add-op, move-op, turn-op, multiply-op, long-op, divide-op, saturate-op, field-op, extend-op, access-op, dual-op, multiple-op, branch-op, register-op, compare-op, mode};
+ghost use Rattle.record.specs.Op.{data-op, data-code, is-lsl, is-mul, loads, loads-dual, loads-many, is-bl, is-blx, is-offset, is-ldr, shift, add-op, move-op, unary-op, multiply-op, long-op, divide-op, saturate-op, field-op, extend-op, access-op, dual-op, multiple-op, branch-op, register-op, compare-op, mode};
 
 // The operations of kinds 01 and 02.
 pub enum DataOp {
@@ -44,7 +44,7 @@ pub enum MoveOp {
 }
 
 // Kind 06.
-pub enum TurnOp {
+pub enum UnaryOp {
     Clz,
     Rev,
     Rev16,
@@ -198,15 +198,15 @@ pub fn move_op_of(code: u8) -> MoveOp
     }
 }
 
-pub fn turn_op_of(code: u8) -> TurnOp
-    ensures { λ r. ⌜ r ≡ turn-op code ⌝ }
+pub fn unary_op_of(code: u8) -> UnaryOp
+    ensures { λ r. ⌜ r ≡ unary-op code ⌝ }
 {
     match code {
-        0 => TurnOp::Clz,
-        1 => TurnOp::Rev,
-        2 => TurnOp::Rev16,
-        3 => TurnOp::Revsh,
-        _ => TurnOp::Rbit,
+        0 => UnaryOp::Clz,
+        1 => UnaryOp::Rev,
+        2 => UnaryOp::Rev16,
+        3 => UnaryOp::Revsh,
+        _ => UnaryOp::Rbit,
     }
 }
 

@@ -7,22 +7,23 @@ use native.Mathlib.Omega.{arith}
 use lib.Dec.{ltb, eqb}
 use lib.ListN.{length, take, drop, getD, set, replicate}
 use lib.Seq.{drop-cons, take-suc, append-snoc, set-at, length-take-le}
+use Rattle.setup.specs.Setup.{at-base}
 use Rattle.word.proofs.Cases.{cases, yes-or-no}
 use Rattle.listing.specs.declared.Checked.{Checked}
 use Rattle.listing.specs.Check.{checked}
 use Rattle.machine.specs.declared.Machine.{Machine}
 use Rattle.run.specs.declared.Ran.{Ran}
 use Rattle.run.specs.Run.{rehearsal, state, run-of, Ending, ending, outcome}
-use Rattle.text.specs.Code.{blank, added}
+use Rattle.text.specs.Code.{blank, appended}
 use Rattle.text.proofs.Texts.{check-length, end-length, Whole, whole}
 use Rattle.rehearsal.specs.declared.Answer.{Answer}
 use Rattle.rehearsal.specs.declared.Page.{Page}
 use Rattle.rehearsal.specs.Code.{page}
-use Rattle.rehearsal.specs.Program.{start, ran, run-text, text-after, text-of, place-of, Told, told, rehearsed}
+use Rattle.rehearsal.specs.Program.{program-start, ran, run-text, text-after, text-of, place-of, Told, told, rehearsed}
 
-pub ran-is : (r : Ran) (m : Machine) (listing memory : List ℕ) → m ≡ start
+pub ran-is : (r : Ran) (m : Machine) (listing memory : List ℕ) → m ≡ program-start
     → ending r memory
-    ≡ outcome (run-of 1_000_000 (rehearsal listing 0x1000 (record { base = 0x20000000 })) (state m (replicate 32768 0)))
+    ≡ outcome (run-of 1_000_000 (rehearsal listing 0x1000 (at-base 0x20000000)) (state m (replicate 32768 0)))
     → r ≡ ran listing
 unfolding ran
 ran-is r m listing memory e h = ap (λ (x : Ending). x .answer) (rw e at h)
@@ -41,7 +42,7 @@ text-length listing =
     (λ e. rw e (check-length 1 0))
     (λ e. rw e (after-length (checked listing 0x1000) (ran listing)))
 
-pub whole-page : (g : Page) (listing : List ℕ) → g ≡ page (added blank (text-of listing)) (place-of listing)
+pub whole-page : (g : Page) (listing : List ℕ) → g ≡ page (appended blank (text-of listing)) (place-of listing)
     → Whole (g .text) (text-of listing)
 whole-page g listing e = rw e (whole (text-of listing) (text-length listing))
 

@@ -6,7 +6,7 @@ use mathlib.Core.List.{List, _++_}
 use lib.Dec.{leb, ltb, eqb}
 use lib.ListN.{length, drop, replicate}
 use Rattle.word.specs.Choice.{if_then_else_}
-use Rattle.memory.specs.declared.Setup.{Setup}
+use Rattle.setup.specs.Setup.{at-base}
 use Rattle.listing.specs.declared.Checked.{Checked}
 use Rattle.listing.specs.Check.{checked}
 use Rattle.machine.specs.declared.Machine.{Machine}
@@ -17,14 +17,14 @@ use Rattle.text.specs.Text.{check-text, end-text}
 use Rattle.rehearsal.specs.declared.Answer.{Answer}
 
 -- "R13 0x20008000, R15 0x1000, all else 0"
-unfoldable pub start : Machine
-start = written (written fresh SP 0x20008000) PC 0x1000
+unfoldable pub program-start : Machine
+program-start = written (written fresh SP 0x20008000) PC 0x1000
 
 -- "base 0x1000, memory 32,768 zero bytes at 0x20000000, .. budget 1,000,000"
 unfoldable pub ran : List ℕ → Ran
 ran listing =
-    let setup : Setup = record { base = 0x20000000 } in
-    outcome (run-of 1_000_000 (rehearsal listing 0x1000 setup) (state start (replicate 32768 0))) .answer
+    let setup = at-base 0x20000000 in
+    outcome (run-of 1_000_000 (rehearsal listing 0x1000 setup) (state program-start (replicate 32768 0))) .answer
 
 unfoldable pub run-text : Ran → List ℕ
 run-text r = end-text (r .number) (r .count) (r .machine .registers) (r .machine .flags)

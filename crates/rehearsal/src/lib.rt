@@ -4,12 +4,12 @@ ghost use mathlib.Core.Path.{_≡_};
 ghost use mathlib.Core.List.{_++_};
 ghost use Prim.Native.Nat.{_≤_};
 ghost use lib.ListN.{length, take, drop};
-ghost use Rattle.rehearsal.specs.Program.{start, ran, run-text, text-of, place-of, told, rehearsed};
+ghost use Rattle.rehearsal.specs.Program.{program-start, ran, run-text, text-of, place-of, told, rehearsed};
 ghost use Rattle.rehearsal.specs.Code.{page};
-ghost use Rattle.text.specs.Code.{blank, added};
+ghost use Rattle.text.specs.Code.{blank, appended};
 use machine::Machine;
-use memory::Setup;
 use reading::Place;
+use setup::Setup;
 use text::Text;
 
 const LIMIT: usize = 32768;
@@ -49,7 +49,7 @@ pub fn rehearse(listing: &[u8], room: &mut [u8]) -> Answer
 }
 
 fn page_of(listing: &[u8]) -> Page
-    ensures { λ r. ⌜ r ≡ page (added blank (text-of (now (listing .entry)))) (place-of (now (listing .entry))) ⌝ }
+    ensures { λ r. ⌜ r ≡ page (appended blank (text-of (now (listing .entry)))) (place-of (now (listing .entry))) ⌝ }
 {
     if LIMIT < listing.len() {
         return Page {
@@ -70,10 +70,10 @@ fn page_of(listing: &[u8]) -> Page
 }
 
 fn run_page_of(listing: &[u8]) -> Page
-    ensures { λ r. ⌜ r ≡ page (added blank (run-text (ran (now (listing .entry))))) (ran (now (listing .entry)) .place .0) ⌝ }
+    ensures { λ r. ⌜ r ≡ page (appended blank (run-text (ran (now (listing .entry))))) (ran (now (listing .entry)) .place .0) ⌝ }
 {
     let mut memory = [0u8; 32768];
-    let setup = Setup { base: MEMORY_BASE };
+    let setup = Setup::new(MEMORY_BASE);
     let ran = run::run(start_of(), listing, BASE, &mut memory, setup, BUDGET);
     let machine = ran.machine;
     let registers = machine.registers;
@@ -86,7 +86,7 @@ fn run_page_of(listing: &[u8]) -> Page
 }
 
 fn start_of() -> Machine
-    ensures { λ r. ⌜ r ≡ start ⌝ }
+    ensures { λ r. ⌜ r ≡ program-start ⌝ }
 {
     Machine::new()
         .write(Machine::SP, MEMORY_END)

@@ -18,7 +18,7 @@ use Rattle.record.specs.declared.IndexedAccessFields.{IndexedAccessFields}
 use Rattle.record.specs.declared.DualAccessFields.{DualAccessFields}
 use Rattle.record.specs.declared.MultipleAccessFields.{MultipleAccessFields}
 use Rattle.record.specs.declared.Record.{Record}
-use Rattle.record.specs.declared.Record.the-variants.{ShiftedRegister, Constant, RegisterShift, AddNumber, MoveNumber, Turn, Multiply, LongMultiply, Divide, Saturate, BitField, Extend, Access, IndexedAccess, DualAccess, MultipleAccess, Branch, RegisterBranch, CompareBranch, IfThen, Nop}
+use Rattle.record.specs.declared.Record.the-variants.{ShiftedRegister, Constant, RegisterShift, AddNumber, MoveNumber, Unary, Multiply, LongMultiply, Divide, Saturate, BitField, Extend, Access, IndexedAccess, DualAccess, MultipleAccess, Branch, RegisterBranch, CompareBranch, IfThen, Nop}
 
 -- a register that is not R13 or R15
 abbrev pub plain : ℕ → Bool
@@ -41,29 +41,29 @@ abbrev pub result : DataOp → ℕ → ℕ → Bool → Bool
 result op rd rn small = plain rd || eqb rd 13 && adds op && eqb rn 13 && small
 
 -- "MOV register without shift or S, any Rd and Rm; ADD R15, R15, Rm without shift or S, Rm not 13 or 15"
-abbrev pub shifted-register : ShiftedRegisterFields → Bool
-shifted-register d =
+abbrev pub shifted-register-allowed : ShiftedRegisterFields → Bool
+shifted-register-allowed d =
     let straight = is-lsl (d .shift) && eqb (d .amount) 0 && not (d .form .s) in
     eqb (data-code (d .op)) 10 && straight
     || eqb (data-code (d .op)) 0 && straight && eqb (d .rd) 15 && eqb (d .rn) 15 && plain (d .rm)
     || first-operand (d .op) (d .rn) && result (d .op) (d .rd) (d .rn) (is-lsl (d .shift) && leb (d .amount) 3) && plain (d .rm)
 
-abbrev pub constant-operand : ConstantFields → Bool
-constant-operand d = first-operand (d .op) (d .rn) && result (d .op) (d .rd) (d .rn) true
+abbrev pub constant-allowed : ConstantFields → Bool
+constant-allowed d = first-operand (d .op) (d .rn) && result (d .op) (d .rd) (d .rn) true
 
 -- "kind 04 with Rn 13 (then Rd may be 13) or with Rn 15"
-abbrev pub add-number : AddNumberFields → Bool
-add-number d = plain (d .rd) || eqb (d .rd) 13 && eqb (d .rn) 13
+abbrev pub add-number-allowed : AddNumberFields → Bool
+add-number-allowed d = plain (d .rd) || eqb (d .rd) 13 && eqb (d .rn) 13
 
 -- "MULS wants R0 to R7 and Rd = Rm"
-abbrev pub multiply : MultiplyFields → Bool
-multiply d =
+abbrev pub multiply-allowed : MultiplyFields → Bool
+multiply-allowed d =
     plain (d .rd) && plain (d .rn) && plain (d .rm) && plain (d .ra)
     && (not (d .form .s) || leb (d .rd) 7 && leb (d .rn) 7 && leb (d .rm) 7 && eqb (d .rd) (d .rm))
 
 -- "Long multiplies want RdLo and RdHi different"
-abbrev pub long-multiply : LongMultiplyFields → Bool
-long-multiply d = plain (d .low) && plain (d .high) && plain (d .rn) && plain (d .rm) && not (eqb (d .low) (d .high))
+abbrev pub long-multiply-allowed : LongMultiplyFields → Bool
+long-multiply-allowed d = plain (d .low) && plain (d .high) && plain (d .rn) && plain (d .rm) && not (eqb (d .low) (d .high))
 
 -- "Rt 13 or 15 only in LDR, Rt 13 in STR"
 abbrev pub transferred : AccessOp → ℕ → Bool
@@ -77,46 +77,46 @@ transferred Strb rt = plain rt
 transferred Strh rt = plain rt
 
 -- "Rn 15 only in loads 0D and 0F, mode 0. Rn is not Rt or Rt2 in modes 1, 2."
-abbrev pub access : AccessFields → Bool
-access d =
+abbrev pub access-allowed : AccessFields → Bool
+access-allowed d =
     transferred (d .op) (d .rt) && (not (eqb (d .rn) 15) || loads (d .op) && is-offset (d .mode))
     && (is-offset (d .mode) || not (eqb (d .rn) (d .rt)))
 
 -- "Rm of 0E is not 13 or 15"
-abbrev pub indexed-access : IndexedAccessFields → Bool
-indexed-access d = transferred (d .op) (d .rt) && not (eqb (d .rn) 15) && plain (d .rm)
+abbrev pub indexed-access-allowed : IndexedAccessFields → Bool
+indexed-access-allowed d = transferred (d .op) (d .rt) && not (eqb (d .rn) 15) && plain (d .rm)
 
 -- "In 0F Rt, Rt2 are not 13 or 15, and LDRD wants them different"
-abbrev pub dual-access : DualAccessFields → Bool
-dual-access d =
+abbrev pub dual-access-allowed : DualAccessFields → Bool
+dual-access-allowed d =
     plain (d .rt) && plain (d .rt2) && (not (loads-dual (d .op)) || not (eqb (d .rt) (d .rt2)))
     && (not (eqb (d .rn) 15) || loads-dual (d .op) && is-offset (d .mode))
     && (is-offset (d .mode) || not (eqb (d .rn) (d .rt)) && not (eqb (d .rn) (d .rt2)))
 
 -- "list not empty, without 13; stores without 15; loads without 14 and 15 together; no Rn in the list with write-back; Rn not 15"
-abbrev pub multiple-access : MultipleAccessFields → Bool
-multiple-access d =
+abbrev pub multiple-access-allowed : MultipleAccessFields → Bool
+multiple-access-allowed d =
     not (eqb (d .list) 0) && not (member (d .list) 13) && not (member (d .list) 15 && not (loads-many (d .op)))
     && not (member (d .list) 14 && member (d .list) 15) && not (d .writeback && member (d .list) (d .rn)) && not (eqb (d .rn) 15)
 
 -- "R13 and R15 nowhere in 01 to 0C, except .."; "BLX not 15. IT with AL has no else."
 unfoldable pub allowed : Record → Bool
-allowed (ShiftedRegister d) = shifted-register d
-allowed (Constant d) = constant-operand d
+allowed (ShiftedRegister d) = shifted-register-allowed d
+allowed (Constant d) = constant-allowed d
 allowed (RegisterShift d) = plain (d .rd) && plain (d .rn) && plain (d .rs)
-allowed (AddNumber d) = add-number d
+allowed (AddNumber d) = add-number-allowed d
 allowed (MoveNumber d) = plain (d .rd)
-allowed (Turn d) = plain (d .rd) && plain (d .rm)
-allowed (Multiply d) = multiply d
-allowed (LongMultiply d) = long-multiply d
+allowed (Unary d) = plain (d .rd) && plain (d .rm)
+allowed (Multiply d) = multiply-allowed d
+allowed (LongMultiply d) = long-multiply-allowed d
 allowed (Divide d) = plain (d .rd) && plain (d .rn) && plain (d .rm)
 allowed (Saturate d) = plain (d .rd) && plain (d .rm)
 allowed (BitField d) = plain (d .rd) && plain (d .rn)
 allowed (Extend d) = plain (d .rd) && plain (d .rm)
-allowed (Access d) = access d
-allowed (IndexedAccess d) = indexed-access d
-allowed (DualAccess d) = dual-access d
-allowed (MultipleAccess d) = multiple-access d
+allowed (Access d) = access-allowed d
+allowed (IndexedAccess d) = indexed-access-allowed d
+allowed (DualAccess d) = dual-access-allowed d
+allowed (MultipleAccess d) = multiple-access-allowed d
 allowed (Branch d) = true
 allowed (RegisterBranch d) = not (is-blx (d .op) && eqb (d .rm) 15)
 allowed (CompareBranch d) = true

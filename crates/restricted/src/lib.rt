@@ -17,7 +17,7 @@ pub fn is_allowed(r: Record) -> bool
             & parts::plain_of(d.rs),
         Record::AddNumber(d) => parts::add_number_of(d),
         Record::MoveNumber(d) => parts::plain_of(d.rd),
-        Record::Turn(d) => parts::plain_of(d.rd) & parts::plain_of(d.rm),
+        Record::Unary(d) => parts::plain_of(d.rd) & parts::plain_of(d.rm),
         Record::Multiply(d) => parts::multiply_of(d),
         Record::LongMultiply(d) => parts::long_multiply_of(d),
         Record::Divide(d) => parts::plain_of(d.rd) & parts::plain_of(d.rn) & parts::plain_of(d.rm),

@@ -2,7 +2,7 @@
 
 ghost use mathlib.Core.Path.{_≡_};
 ghost use Rattle.restricted.specs.Restricted.{plain, first-operand, result, transferred};
-ghost use Rattle.restricted.specs.Restricted.{shifted-register, constant-operand, add-number, multiply, long-multiply, access, indexed-access, dual-access, multiple-access};
+ghost use Rattle.restricted.specs.Restricted.{shifted-register-allowed, constant-allowed, add-number-allowed, multiply-allowed, long-multiply-allowed, access-allowed, indexed-access-allowed, dual-access-allowed, multiple-access-allowed};
 use record::AccessFields;
 use record::AddNumberFields;
 use record::ConstantFields;
@@ -22,7 +22,7 @@ pub fn plain_of(n: u8) -> bool
 }
 
 pub fn shifted_register_of(d: ShiftedRegisterFields) -> bool
-    ensures { λ r. ⌜ r ≡ shifted-register d ⌝ }
+    ensures { λ r. ⌜ r ≡ shifted-register-allowed d ⌝ }
 {
     let op = d.op;
     let shift = d.shift;
@@ -36,7 +36,7 @@ pub fn shifted_register_of(d: ShiftedRegisterFields) -> bool
 }
 
 pub fn constant_of(d: ConstantFields) -> bool
-    ensures { λ r. ⌜ r ≡ constant-operand d ⌝ }
+    ensures { λ r. ⌜ r ≡ constant-allowed d ⌝ }
 {
     let op = d.op;
     first_operand_of(op, d.rn) & result_of(op, d.rd, d.rn, true)
@@ -57,13 +57,13 @@ fn result_of(op: DataOp, rd: u8, rn: u8, small: bool) -> bool
 }
 
 pub fn add_number_of(d: AddNumberFields) -> bool
-    ensures { λ r. ⌜ r ≡ add-number d ⌝ }
+    ensures { λ r. ⌜ r ≡ add-number-allowed d ⌝ }
 {
     plain_of(d.rd) | (d.rd == 13) & (d.rn == 13)
 }
 
 pub fn multiply_of(d: MultiplyFields) -> bool
-    ensures { λ r. ⌜ r ≡ multiply d ⌝ }
+    ensures { λ r. ⌜ r ≡ multiply-allowed d ⌝ }
 {
     plain_of(d.rd)
         & plain_of(d.rn)
@@ -73,7 +73,7 @@ pub fn multiply_of(d: MultiplyFields) -> bool
 }
 
 pub fn long_multiply_of(d: LongMultiplyFields) -> bool
-    ensures { λ r. ⌜ r ≡ long-multiply d ⌝ }
+    ensures { λ r. ⌜ r ≡ long-multiply-allowed d ⌝ }
 {
     plain_of(d.low) & plain_of(d.high) & plain_of(d.rn) & plain_of(d.rm) & !(d.low == d.high)
 }
@@ -94,7 +94,7 @@ fn transferred_of(op: AccessOp, rt: u8) -> bool
 }
 
 pub fn access_of(d: AccessFields) -> bool
-    ensures { λ r. ⌜ r ≡ access d ⌝ }
+    ensures { λ r. ⌜ r ≡ access-allowed d ⌝ }
 {
     let op = d.op;
     let mode = d.mode;
@@ -105,14 +105,14 @@ pub fn access_of(d: AccessFields) -> bool
 }
 
 pub fn indexed_access_of(d: IndexedAccessFields) -> bool
-    ensures { λ r. ⌜ r ≡ indexed-access d ⌝ }
+    ensures { λ r. ⌜ r ≡ indexed-access-allowed d ⌝ }
 {
     let op = d.op;
     transferred_of(op, d.rt) & !(d.rn == 15) & plain_of(d.rm)
 }
 
 pub fn dual_access_of(d: DualAccessFields) -> bool
-    ensures { λ r. ⌜ r ≡ dual-access d ⌝ }
+    ensures { λ r. ⌜ r ≡ dual-access-allowed d ⌝ }
 {
     let op = d.op;
     let mode = d.mode;
@@ -126,7 +126,7 @@ pub fn dual_access_of(d: DualAccessFields) -> bool
 }
 
 pub fn multiple_access_of(d: MultipleAccessFields) -> bool
-    ensures { λ r. ⌜ r ≡ multiple-access d ⌝ }
+    ensures { λ r. ⌜ r ≡ multiple-access-allowed d ⌝ }
 {
     let op = d.op;
     let list = d.list;

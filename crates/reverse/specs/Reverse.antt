@@ -13,19 +13,19 @@ unfoldable pub CLZ : ℕ → ℕ
 CLZ x = clear-from 32 x
 
 -- byte i of x, the lowest being byte 0
-abbrev pub byte : ℕ → ℕ → ℕ
-byte i x = x / 2 ^ (8 * i) % 2 ^ 8
+abbrev pub byte-of : ℕ → ℕ → ℕ
+byte-of i x = x / 2 ^ (8 * i) % 2 ^ 8
 
 -- a word of four bytes, the highest first
 abbrev pub word-of : ℕ → ℕ → ℕ → ℕ → ℕ
 word-of a b c d = a * 2 ^ 24 + b * 2 ^ 16 + c * 2 ^ 8 + d
 
 unfoldable pub REV : ℕ → ℕ
-REV x = word-of (byte 0 x) (byte 1 x) (byte 2 x) (byte 3 x)
+REV x = word-of (byte-of 0 x) (byte-of 1 x) (byte-of 2 x) (byte-of 3 x)
 
 -- the bytes of each half exchanged
 unfoldable pub REV16 : ℕ → ℕ
-REV16 x = word-of (byte 2 x) (byte 3 x) (byte 0 x) (byte 1 x)
+REV16 x = word-of (byte-of 2 x) (byte-of 3 x) (byte-of 0 x) (byte-of 1 x)
 
 -- the low half with its bytes exchanged, and its sign above it
 unfoldable pub REVSH : ℕ → ℕ

@@ -23,18 +23,18 @@ used-up-at AtNone = 8
 used-up-at (AtRecord place) = 10
 
 -- a round's answer, and memory after it
-pub record Kept : Type 0 where
+pub record Handed : Type 0 where
   pub answer : Taken
   pub memory : List ℕ
 
-abbrev pub kept : Taken → List ℕ → Kept
-kept answer memory = record { answer = answer; memory = memory }
+abbrev pub handed : Taken → List ℕ → Handed
+handed answer memory = record { answer = answer; memory = memory }
 
-unfoldable pub round-kept : Round → State → Kept
-round-kept (Over number place) s =
-    kept (record { over = true; number = number; place = record { 0 = place }; machine = s .machine }) (s .memory)
-round-kept (Done r p next) s =
-    kept (record { over = false; number = 0; place = p .place; machine = next .machine }) (next .memory)
+unfoldable pub round-handed : Round → State → Handed
+round-handed (Over number place) s =
+    handed (record { over = true; number = number; place = record { 0 = place }; machine = s .machine }) (s .memory)
+round-handed (Done r p next) s =
+    handed (record { over = false; number = 0; place = p .place; machine = next .machine }) (next .memory)
 
 -- a run without a step
 abbrev pub stopped : ℕ → Place → Machine → Ran

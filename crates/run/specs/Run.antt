@@ -9,8 +9,8 @@ use Rattle.waiting.specs.declared.Waiting.{Waiting}
 use Rattle.waiting.specs.Waiting.{nothing, same}
 use Rattle.record.specs.declared.Record.{Record}
 use Rattle.reading.specs.Reading.{part}
-use Rattle.memory.specs.declared.Setup.{Setup}
-use Rattle.memory.specs.Memory.{fits}
+use Rattle.setup.specs.declared.Setup.{Setup}
+use Rattle.setup.specs.Setup.{fits}
 use Rattle.layout.specs.declared.Point.{Point}
 use Rattle.layout.specs.declared.AtAddress.{AtAddress}
 use Rattle.layout.specs.declared.AtAddress.the-variants.{Stands, End, Stray}
@@ -18,8 +18,7 @@ use Rattle.layout.specs.Layout.{at-address}
 use Rattle.listing.specs.declared.Checked.{Checked}
 use Rattle.listing.specs.Check.{checked}
 use Rattle.machine.specs.declared.Machine.{Machine}
-use Rattle.machine.specs.Machine.{PC, held, good}
-use Rattle.machine.specs.Access.{Outcome}
+use Rattle.machine.specs.Machine.{PC, held, good, Outcome}
 use Rattle.machine.specs.Step.{stepped}
 use Rattle.run.specs.declared.Ran.{Ran}
 
@@ -90,9 +89,9 @@ over number place s = record { steps = []; last = s; number = number; place = pl
 abbrev pub led-by : Passage → Course → Course
 led-by x c = record { steps = x ∷ c .steps; last = c .last; number = c .number; place = c .place }
 
-abbrev pub followed : Round → State → (State → Course) → Course
-followed (Over number place) s rest = over number place s
-followed (Done r p next) s rest = led-by (record { before = s; what = r; point = p }) (rest next)
+abbrev pub continued : Round → State → (State → Course) → Course
+continued (Over number place) s rest = over number place s
+continued (Done r p next) s rest = led-by (record { before = s; what = r; point = p }) (rest next)
 
 -- "end (0), stray (8), steps used up (10)"
 unfoldable pub used-up : AtAddress → ℕ
@@ -103,7 +102,7 @@ used-up (Stands r p) = 10
 -- the rounds of a run with so many steps left
 unfoldable pub rounds : ℕ → Rehearsal → State → Course
 rounds zero h s = over (used-up (faced h (s .machine))) 0 s
-rounds (suc left) h s = followed (round h s) s (rounds left h)
+rounds (suc left) h s = continued (round h s) s (rounds left h)
 
 -- the rounds, unless the check refuses; the place is "the check's if the check refused"
 abbrev pub unless-refused : Checked → State → Course → Course

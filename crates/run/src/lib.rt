@@ -3,11 +3,11 @@
 ghost use mathlib.Core.Path.{_≡_};
 ghost use Rattle.layout.specs.Layout.{at-address};
 ghost use Rattle.run.specs.Run.{rehearsal, state, agreeing, round, rounds, run-of, ending, outcome};
-ghost use Rattle.run.specs.Code.{sight, used-up-at, kept, round-kept, stopped};
+ghost use Rattle.run.specs.Code.{sight, used-up-at, handed, round-handed, stopped};
 use layout::AtAddress;
 use machine::Machine;
-use memory::Setup;
 use reading::Place;
+use setup::Setup;
 use waiting::Waiting;
 
 // How a run ended: its number and place, the count of the steps done, and the machine after them.
@@ -43,7 +43,7 @@ pub fn run(
 ) -> Ran
     ensures { λ r. ⌜ ending r (now (memory .exit)) ≡ outcome (run-of budget (rehearsal (now (listing .entry)) base setup) (state machine (now (memory .entry)))) ⌝ }
 {
-    let fine = machine.is_good() & memory::is_fit(memory, setup);
+    let fine = machine.is_good() & setup::is_fit(memory, setup);
     if fine {
         let checked = listing::check(listing, base);
         let accepted = checked.number == 0;
@@ -108,7 +108,7 @@ fn repeat(
 }
 
 fn take(machine: Machine, listing: &[u8], base: u32, memory: &mut [u8], setup: Setup) -> Taken
-    ensures { λ r. ⌜ kept r (now (memory .exit)) ≡ round-kept (round (rehearsal (now (listing .entry)) base setup) (state machine (now (memory .entry)))) (state machine (now (memory .entry))) ⌝ }
+    ensures { λ r. ⌜ handed r (now (memory .exit)) ≡ round-handed (round (rehearsal (now (listing .entry)) base setup) (state machine (now (memory .entry)))) (state machine (now (memory .entry))) ⌝ }
 {
     let waiting = machine.waiting;
     match see(machine.register(Machine::PC), waiting, listing, base) {

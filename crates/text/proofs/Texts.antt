@@ -23,15 +23,15 @@ use Rattle.text.specs.Text.{
   end-text,
 }
 use Rattle.text.specs.declared.Text.{Text}
-use Rattle.text.specs.Code.{blank, pushed, added}
+use Rattle.text.specs.Code.{blank, pushed, appended}
 
 pub added-next : (t : Text) (xs : List ℕ) (i : ℕ) → i < length xs
-    → added t (drop i xs) ≡ added (pushed t (getD xs i 0)) (drop (i + 1) xs)
-unfolding added
+    → appended t (drop i xs) ≡ appended (pushed t (getD xs i 0)) (drop (i + 1) xs)
+unfolding appended
 added-next t xs i h = rw (add-one, drop-cons xs i 0)
 
-pub added-append : (t : Text) (xs ys : List ℕ) → added t (xs ++ ys) ≡ added (added t xs) ys
-unfolding added
+pub added-append : (t : Text) (xs ys : List ℕ) → appended t (xs ++ ys) ≡ appended (appended t xs) ys
+unfolding appended
 added-append t [] ys = refl
 added-append t (x ∷ xs) ys = added-append (pushed t x) xs ys
 
@@ -67,16 +67,16 @@ module _ (n : ℕ) (behind : List ℕ) where
 abbrev longer : Text → ℕ → Text
 longer t x = record { bytes = set (t .bytes) (t .length) x; length = t .length + 1 }
 
-added-free : (t : Text) (x : ℕ) (xs : List ℕ) → t .length < 256 → added t (x ∷ xs) ≡ added (longer t x) xs
-unfolding added pushed
+added-free : (t : Text) (x : ℕ) (xs : List ℕ) → t .length < 256 → appended t (x ∷ xs) ≡ appended (longer t x) xs
+unfolding appended pushed
 added-free t x xs free =
-    let e : pushed t x ≡ longer t x = rw (lt-ltb (t .length) 256 free) in ap (λ (more : Text). added more xs) e
+    let e : pushed t x ≡ longer t x = rw (lt-ltb (t .length) 256 free) in ap (λ (more : Text). appended more xs) e
 
 -- while there is room, what is added stands behind what was there
 held : (xs : List ℕ) (t : Text) → length (t .bytes) ≡ 256 → t .length + length xs ≤ 256
-    → (added t xs .length ≡ t .length + length xs)
-    × (take (t .length + length xs) (added t xs .bytes) ≡ take (t .length) (t .bytes) ++ xs)
-unfolding added
+    → (appended t xs .length ≡ t .length + length xs)
+    × (take (t .length + length xs) (appended t xs .bytes) ≡ take (t .length) (t .bytes) ++ xs)
+unfolding appended
 held [] t e h = simp (add-zero, append-nil) (refl, refl)
 held (x ∷ xs) t e h =
     let free : t .length < 256 = omega arith in
@@ -92,7 +92,7 @@ pub record Whole (t : Text) (text : List ℕ) : Type 0 where
   pub count : t .length ≡ length text
   pub front : take (length text) (t .bytes) ≡ text
 
-pub whole : (xs : List ℕ) → length xs ≤ 256 → Whole (added blank xs) xs
+pub whole : (xs : List ℕ) → length xs ≤ 256 → Whole (appended blank xs) xs
 unfolding blank
 whole xs h =
     let z : 0 + length xs ≡ length xs = omega arith in
@@ -109,8 +109,8 @@ decimal-length (suc most) n =
     (λ h. rw (lt-ltb n 10 h) (omega arith))
 
 pub added-line : (t : Text) (i : ℕ) (registers : List ℕ)
-    → added (added t (register-lines i registers)) (register-line i (getD registers i 0))
-    ≡ added t (register-lines (i + 1) registers)
+    → appended (appended t (register-lines i registers)) (register-line i (getD registers i 0))
+    ≡ appended t (register-lines (i + 1) registers)
 unfolding register-lines
 added-line t i registers = rw (add-one, added-append)
 

@@ -14,6 +14,6 @@ unfoldable pub pushed : Text → ℕ → Text
 pushed t byte =
     if ltb (t .length) 256 then record { bytes = set (t .bytes) (t .length) byte; length = t .length + 1 } else t
 
-unfoldable pub added : Text → List ℕ → Text
-added t [] = t
-added t (byte ∷ rest) = added (pushed t byte) rest
+unfoldable pub appended : Text → List ℕ → Text
+appended t [] = t
+appended t (byte ∷ rest) = appended (pushed t byte) rest

@@ -3,7 +3,7 @@
 ghost use mathlib.Core.Path.{_≡_};
 ghost use Prim.Native.Nat.{_<_};
 ghost use Rattle.text.specs.Text.{digit, decimal, hex};
-ghost use Rattle.text.specs.Code.{blank, pushed, added};
+ghost use Rattle.text.specs.Code.{blank, pushed, appended};
 
 pub mod lines;
 
@@ -35,7 +35,7 @@ impl Text {
     }
 
     pub fn say(self, words: &[u8]) -> Self
-        ensures { λ r. ⌜ r ≡ added self (now (words .entry)) ⌝ }
+        ensures { λ r. ⌜ r ≡ appended self (now (words .entry)) ⌝ }
     {
         let mut text = self;
         let mut i = 0;
@@ -47,7 +47,7 @@ impl Text {
     }
 
     pub fn say_decimal(self, number: usize) -> Self
-        ensures { λ r. ⌜ r ≡ added self (decimal number) ⌝ }
+        ensures { λ r. ⌜ r ≡ appended self (decimal number) ⌝ }
     {
         let mut digits = [0u8; 10];
         let mut at = 10;
@@ -64,7 +64,7 @@ impl Text {
     }
 
     pub fn say_hex(self, word: u32) -> Self
-        ensures { λ r. ⌜ r ≡ added self (hex word) ⌝ }
+        ensures { λ r. ⌜ r ≡ appended self (hex word) ⌝ }
     {
         let w = word as usize;
         let digits = [

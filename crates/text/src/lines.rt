@@ -3,18 +3,18 @@
 ghost use mathlib.Core.Path.{_≡_};
 ghost use mathlib.Core.List.{_++_};
 ghost use Rattle.text.specs.Text.{letters, decimal, bit-digit, check-text, register-line, register-lines, flags-line, end-text};
-ghost use Rattle.text.specs.Code.{blank, added};
+ghost use Rattle.text.specs.Code.{blank, appended};
 use crate::Text;
 use flags::Flags;
 
 pub fn check_text_of(number: u32, place: usize) -> Text
-    ensures { λ r. ⌜ r ≡ added blank (check-text number place) ⌝ }
+    ensures { λ r. ⌜ r ≡ appended blank (check-text number place) ⌝ }
 {
     say_two(Text::new(), b"check ", number as usize, b" at ", place)
 }
 
 pub fn end_text_of(number: u32, count: u32, registers: [u32; 16], flags: Flags) -> Text
-    ensures { λ r. ⌜ r ≡ added blank (end-text number count registers flags) ⌝ }
+    ensures { λ r. ⌜ r ≡ appended blank (end-text number count registers flags) ⌝ }
 {
     let first = say_two(
         Text::new(),
@@ -28,7 +28,7 @@ pub fn end_text_of(number: u32, count: u32, registers: [u32; 16], flags: Flags) 
 
 // A line of two numbers, each behind its word.
 fn say_two(text: Text, first: &[u8], a: usize, second: &[u8], b: usize) -> Text
-    ensures { λ r. ⌜ r ≡ added text (now (first .entry) ++ decimal a ++ now (second .entry) ++ decimal b ++ letters "\n") ⌝ }
+    ensures { λ r. ⌜ r ≡ appended text (now (first .entry) ++ decimal a ++ now (second .entry) ++ decimal b ++ letters "\n") ⌝ }
 {
     text.say(first)
         .say_decimal(a)
@@ -38,7 +38,7 @@ fn say_two(text: Text, first: &[u8], a: usize, second: &[u8], b: usize) -> Text
 }
 
 fn say_register(text: Text, register: usize, value: u32) -> Text
-    ensures { λ r. ⌜ r ≡ added text (register-line register value) ⌝ }
+    ensures { λ r. ⌜ r ≡ appended text (register-line register value) ⌝ }
 {
     text.say(b"R")
         .say_decimal(register)
@@ -48,7 +48,7 @@ fn say_register(text: Text, register: usize, value: u32) -> Text
 }
 
 fn say_registers(text: Text, registers: [u32; 16]) -> Text
-    ensures { λ r. ⌜ r ≡ added text (register-lines 16 registers) ⌝ }
+    ensures { λ r. ⌜ r ≡ appended text (register-lines 16 registers) ⌝ }
 {
     let mut more = text;
     let mut i = 0;
@@ -60,7 +60,7 @@ fn say_registers(text: Text, registers: [u32; 16]) -> Text
 }
 
 fn say_flags(text: Text, flags: Flags) -> Text
-    ensures { λ r. ⌜ r ≡ added text (flags-line flags) ⌝ }
+    ensures { λ r. ⌜ r ≡ appended text (flags-line flags) ⌝ }
 {
     let bits = [
         bit_of(flags.n),

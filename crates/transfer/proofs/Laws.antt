@@ -7,7 +7,7 @@ use lib.ListN.{getD}
 use Rattle.word.specs.Choice.{if_then_else_}
 use Rattle.word.proofs.Cases.{cases, yes-or-no}
 use Rattle.register_list.specs.List.{member, members-below}
-use Rattle.memory.specs.declared.Setup.{Setup}
+use Rattle.setup.specs.declared.Setup.{Setup}
 use Rattle.memory.specs.Memory.{further, stored}
 use Rattle.transfer.specs.Transfer.{lower, slot, list-stored}
 

@@ -6,7 +6,7 @@ use mathlib.Core.Path.{_≡_, refl, _∙_}
 use lib.ListN.{length}
 use Rattle.word.specs.Choice.{if_then_else_}
 use Rattle.register_list.specs.List.{member}
-use Rattle.memory.specs.declared.Setup.{Setup}
+use Rattle.setup.specs.declared.Setup.{Setup}
 use Rattle.memory.specs.Memory.{stored}
 use Rattle.memory.proofs.Laws.{stored-length}
 use Rattle.record.specs.declared.op.AccessOp.{AccessOp}

@@ -7,14 +7,17 @@ use lib.ListN.{getD}
 use Rattle.word.specs.Choice.{if_then_else_}
 use Rattle.field.specs.Field.{SXTB, SXTH}
 use Rattle.register_list.specs.List.{member, members-below}
-use Rattle.memory.specs.declared.Setup.{Setup}
+use Rattle.setup.specs.declared.Setup.{Setup}
 use Rattle.memory.specs.Memory.{further, inside, loaded, stored}
+use Rattle.record.specs.Op.{is-ldr}
 use Rattle.record.specs.declared.op.AccessOp.{AccessOp}
 use Rattle.record.specs.declared.op.AccessOp.the-variants.{Ldr, Ldrb, Ldrh, Ldrsb, Ldrsh, Str, Strb, Strh}
 use Rattle.record.specs.declared.op.MultipleOp.{MultipleOp}
 use Rattle.record.specs.declared.op.MultipleOp.the-variants.{Ldmia, Ldmdb, Stmia, Stmdb}
 use Rattle.record.specs.declared.op.Mode.{Mode}
 use Rattle.record.specs.declared.op.Mode.the-variants.{Offset, PreIndexed, PostIndexed}
+use Rattle.transfer.specs.declared.Alignment.{Alignment}
+use Rattle.transfer.specs.declared.Alignment.the-variants.{Byte, Half, Word}
 
 -- the bytes that an access of kind 0D or 0E takes
 unfoldable pub width : AccessOp → ℕ
@@ -55,10 +58,20 @@ reached Offset base moved = moved
 reached PreIndexed base moved = moved
 reached PostIndexed base moved = base
 
+-- an access wants a multiple of this
+unfoldable pub multiple : Alignment → ℕ
+multiple Byte = 1
+multiple Half = 2
+multiple Word = 4
+
+-- "LDR to R15 wants a multiple of 4"; any other access of kind 0D or 0E is made at every address
+unfoldable pub alignment : AccessOp → Bool → Alignment
+alignment op leaves = if is-ldr op && leaves then Word else Byte
+
 -- what an access is refused with: "unaligned access not permitted" is 5, "some accessed byte is not in memory" is 6; else 0
-unfoldable pub access-refusal : Bool → ℕ → Setup → ℕ → ℕ → ℕ
-access-refusal aligned count setup size address =
-    if aligned && not (eqb (address % 4) 0) then 5
+unfoldable pub access-refusal : Alignment → ℕ → Setup → ℕ → ℕ → ℕ
+access-refusal wanted count setup size address =
+    if not (eqb (address % multiple wanted) 0) then 5
     else if inside count setup size address then 0
     else 6
 
@@ -71,11 +84,11 @@ abbrev pub lower : ℕ → ℕ → ℕ
 lower address size = (address + (2 ^ 32 - size)) % 2 ^ 32
 
 -- kind 10: the lowest address that is accessed; IA goes up from the base, DB ends below it
-unfoldable pub lowest : MultipleOp → ℕ → ℕ → ℕ
-lowest Ldmia base size = base
-lowest Ldmdb base size = lower base size
-lowest Stmia base size = base
-lowest Stmdb base size = lower base size
+unfoldable pub lowest-address : MultipleOp → ℕ → ℕ → ℕ
+lowest-address Ldmia base size = base
+lowest-address Ldmdb base size = lower base size
+lowest-address Stmia base size = base
+lowest-address Stmdb base size = lower base size
 
 -- the base that is written back
 unfoldable pub new-base : MultipleOp → ℕ → ℕ → ℕ

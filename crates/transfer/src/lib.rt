@@ -1,15 +1,24 @@
 // Loads and stores: how wide, from where, in which order, and whether they may be made.
 
 ghost use mathlib.Core.Path.{_≡_};
+ghost use Prim.Native.Nat.{_%_};
+ghost use lib.Dec.{eqb};
 ghost use lib.ListN.{length};
-ghost use Rattle.transfer.specs.Transfer.{width, load-value, after-store, reached, access-refusal, list-size, lower, lowest, new-base, slot, list-stored};
+ghost use Rattle.transfer.specs.Transfer.{width, load-value, after-store, reached, multiple, alignment, access-refusal, list-size, lower, lowest-address, new-base, slot, list-stored};
 ghost use Rattle.word.specs.Choice.{if_then_else_};
 ghost use Rattle.address.specs.Address.{moved};
 ghost use Rattle.memory.specs.Memory.{further, stored};
-use memory::Setup;
 use record::op::AccessOp;
 use record::op::Mode;
 use record::op::MultipleOp;
+use setup::Setup;
+
+// An access of this alignment wants a multiple of 1, of 2 or of 4.
+pub enum Alignment {
+    Byte,
+    Half,
+    Word,
+}
 
 pub fn width_of(op: AccessOp) -> u32
     ensures { λ r. ⌜ r ≡ width op ⌝ }
@@ -73,11 +82,32 @@ pub fn reached_of(mode: Mode, base: u32, moved: u32) -> u32
     }
 }
 
-// 5, 6, or 0 where the access may be made.
-pub fn refusal_of(aligned: bool, count: u32, setup: Setup, memory: &[u8], address: u32) -> u32
-    ensures { λ r. ⌜ r ≡ access-refusal aligned count setup (length (now (memory .entry))) address ⌝ }
+// The alignment that an access of one register wants.
+pub fn alignment_of(op: AccessOp, leaves: bool) -> Alignment
+    ensures { λ r. ⌜ r ≡ alignment op leaves ⌝ }
 {
-    let unaligned = aligned & !(address % 4 == 0);
+    let whole = record::op::is_ldr_of(op) & leaves;
+    if whole {
+        return Alignment::Word;
+    }
+    Alignment::Byte
+}
+
+fn is_aligned(wanted: Alignment, address: u32) -> bool
+    ensures { λ r. ⌜ r ≡ eqb (address % multiple wanted) 0 ⌝ }
+{
+    match wanted {
+        Alignment::Byte => true,
+        Alignment::Half => address % 2 == 0,
+        Alignment::Word => address % 4 == 0,
+    }
+}
+
+// 5, 6, or 0 where the access may be made.
+pub fn refusal_of(wanted: Alignment, count: u32, setup: Setup, memory: &[u8], address: u32) -> u32
+    ensures { λ r. ⌜ r ≡ access-refusal wanted count setup (length (now (memory .entry))) address ⌝ }
+{
+    let unaligned = !is_aligned(wanted, address);
     if unaligned {
         return 5;
     }
@@ -94,8 +124,8 @@ pub fn list_size_of(list: u16) -> u32
     4 * register_list::count(list)
 }
 
-pub fn lowest_of(op: MultipleOp, base: u32, size: u32) -> u32
-    ensures { λ r. ⌜ r ≡ lowest op base size ⌝ }
+pub fn lowest_address_of(op: MultipleOp, base: u32, size: u32) -> u32
+    ensures { λ r. ⌜ r ≡ lowest-address op base size ⌝ }
 {
     match op {
         MultipleOp::Ldmia => base,

@@ -3,7 +3,7 @@ use mathlib.Core.List.{List}
 use mathlib.Core.Path.{_≡_}
 use native.Mathlib.Omega.{arith}
 use borrow.Author.Needs.{needs}
-use Rattle.memory.specs.declared.Setup.{Setup}
+use Rattle.setup.specs.declared.Setup.{Setup}
 use Rattle.memory.specs.Memory.{stored}
 use Rattle.interface.specs.Interface.{with-answer}
 use Rattle.interface.proofs.tell.Statement.{statement}

@@ -1,12 +1,13 @@
 use mir.Syntax.{w16}
 use mir.Facts.{toZ-ofZ}
-use Rattle.kinds.specs.Kinds.{access}
+use Rattle.little.specs.Little.{little}
+use Rattle.kinds.specs.Kinds.{access-from}
 use borrow.Author.Needs.{needs}
 use Rattle.kinds.proofs.access_from.Statement.{statement}
 use Rattle.kinds.proofs.access_from.Tie as tie
 
 returns : tie.Need-returns
-unfolding access
+unfolding access-from little
 returns c =
     let read = toZ-ofZ {w = w16} {z = c .signed-half-of .result} (record { sfits = c .signed-half-of .ok }) in
     rw read (rw (

@@ -1,10 +1,10 @@
-use Rattle.kinds.specs.Kinds.{bit-field}
+use Rattle.kinds.specs.Kinds.{bit-field-from}
 use borrow.Author.Needs.{needs}
 use Rattle.kinds.proofs.bit_field_from.Statement.{statement}
 use Rattle.kinds.proofs.bit_field_from.Tie as tie
 
 returns : tie.Need-returns
-unfolding bit-field
+unfolding bit-field-from
 returns c =
     rw (c .form-of .ensures, c .before .field-op-of .ensures)
 

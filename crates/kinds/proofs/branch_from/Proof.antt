@@ -1,12 +1,13 @@
 use mir.Syntax.{w32}
 use mir.Facts.{toZ-ofZ}
-use Rattle.kinds.specs.Kinds.{branch}
+use Rattle.little.specs.Little.{little}
+use Rattle.kinds.specs.Kinds.{branch-from}
 use borrow.Author.Needs.{needs}
 use Rattle.kinds.proofs.branch_from.Statement.{statement}
 use Rattle.kinds.proofs.branch_from.Tie as tie
 
 returns : tie.Need-returns
-unfolding branch
+unfolding branch-from little
 returns c =
     let read = toZ-ofZ {w = w32} {z = c .signed-of .result} (record { sfits = c .signed-of .ok }) in
     rw read (rw (

@@ -1,10 +1,10 @@
-use Rattle.kinds.specs.Kinds.{compare-branch}
+use Rattle.kinds.specs.Kinds.{compare-branch-from}
 use borrow.Author.Needs.{needs}
 use Rattle.kinds.proofs.compare_branch_from.Statement.{statement}
 use Rattle.kinds.proofs.compare_branch_from.Tie as tie
 
 returns : tie.Need-returns
-unfolding compare-branch
+unfolding compare-branch-from
 returns c =
     rw (c .form-of .ensures, c .before .compare-op-of .ensures)
 

@@ -1,10 +1,10 @@
-use Rattle.kinds.specs.Kinds.{divide}
+use Rattle.kinds.specs.Kinds.{divide-from}
 use borrow.Author.Needs.{needs}
 use Rattle.kinds.proofs.divide_from.Statement.{statement}
 use Rattle.kinds.proofs.divide_from.Tie as tie
 
 returns : tie.Need-returns
-unfolding divide
+unfolding divide-from
 returns c =
     rw (c .form-of .ensures, c .before .divide-op-of .ensures)
 

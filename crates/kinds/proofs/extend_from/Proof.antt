@@ -1,10 +1,10 @@
-use Rattle.kinds.specs.Kinds.{extend}
+use Rattle.kinds.specs.Kinds.{extend-from}
 use borrow.Author.Needs.{needs}
 use Rattle.kinds.proofs.extend_from.Statement.{statement}
 use Rattle.kinds.proofs.extend_from.Tie as tie
 
 returns : tie.Need-returns
-unfolding extend
+unfolding extend-from
 returns c =
     rw (c .form-of .ensures, c .before .extend-op-of .ensures)
 

@@ -1,10 +1,10 @@
-use Rattle.kinds.specs.Kinds.{if-then}
+use Rattle.kinds.specs.Kinds.{if-then-from}
 use borrow.Author.Needs.{needs}
 use Rattle.kinds.proofs.if_then_from.Statement.{statement}
 use Rattle.kinds.proofs.if_then_from.Tie as tie
 
 returns : tie.Need-returns
-unfolding if-then
+unfolding if-then-from
 returns c =
     rw (c .form-of .ensures)
 

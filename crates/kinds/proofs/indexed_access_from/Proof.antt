@@ -1,10 +1,10 @@
-use Rattle.kinds.specs.Kinds.{indexed-access}
+use Rattle.kinds.specs.Kinds.{indexed-access-from}
 use borrow.Author.Needs.{needs}
 use Rattle.kinds.proofs.indexed_access_from.Statement.{statement}
 use Rattle.kinds.proofs.indexed_access_from.Tie as tie
 
 returns : tie.Need-returns
-unfolding indexed-access
+unfolding indexed-access-from
 returns c =
     rw (c .form-of .ensures, c .before .access-op-of .ensures)
 

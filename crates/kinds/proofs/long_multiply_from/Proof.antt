@@ -1,10 +1,10 @@
-use Rattle.kinds.specs.Kinds.{long-multiply}
+use Rattle.kinds.specs.Kinds.{long-multiply-from}
 use borrow.Author.Needs.{needs}
 use Rattle.kinds.proofs.long_multiply_from.Statement.{statement}
 use Rattle.kinds.proofs.long_multiply_from.Tie as tie
 
 returns : tie.Need-returns
-unfolding long-multiply
+unfolding long-multiply-from
 returns c =
     rw (c .form-of .ensures, c .before .long-op-of .ensures)
 

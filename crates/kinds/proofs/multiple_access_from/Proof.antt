@@ -1,10 +1,11 @@
-use Rattle.kinds.specs.Kinds.{multiple-access}
+use Rattle.little.specs.Little.{little}
+use Rattle.kinds.specs.Kinds.{multiple-access-from}
 use borrow.Author.Needs.{needs}
 use Rattle.kinds.proofs.multiple_access_from.Statement.{statement}
 use Rattle.kinds.proofs.multiple_access_from.Tie as tie
 
 returns : tie.Need-returns
-unfolding multiple-access
+unfolding multiple-access-from little
 returns c =
     rw (
       c .half-of .ensures,

@@ -1,10 +1,10 @@
-use Rattle.kinds.specs.Kinds.{multiply}
+use Rattle.kinds.specs.Kinds.{multiply-from}
 use borrow.Author.Needs.{needs}
 use Rattle.kinds.proofs.multiply_from.Statement.{statement}
 use Rattle.kinds.proofs.multiply_from.Tie as tie
 
 returns : tie.Need-returns
-unfolding multiply
+unfolding multiply-from
 returns c =
     rw (c .form-of .ensures, c .before .multiply-op-of .ensures)
 

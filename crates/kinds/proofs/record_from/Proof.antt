@@ -1,7 +1,7 @@
 use lib.ListN.{List·getD-eq-default}
 use Rattle.word.proofs.Cases.{not-below}
 use Rattle.little.specs.Little.{byte}
-use Rattle.kinds.specs.Kinds.{record-of, readings, nop}
+use Rattle.kinds.specs.Kinds.{record-of, readings, nop-from}
 use borrow.Author.Needs.{needs}
 use Rattle.kinds.proofs.record_from.Statement.{statement}
 use Rattle.kinds.proofs.record_from.Tie as tie
@@ -39,7 +39,7 @@ returns-6 c =
 returns-7 : tie.Need-returns-7
 unfolding record-of
 returns-7 c =
-    rw (c .turn-from .ensures, c .before .match .keys7)
+    rw (c .unary-from .ensures, c .before .match .keys7)
 
 returns-8 : tie.Need-returns-8
 unfolding record-of
@@ -115,7 +115,7 @@ returns-22 : tie.Need-returns-22
 unfolding record-of
 returns-22 c =
     let r = c .before .before .args .t1 in
-    let past = List·getD-eq-default readings nop (not-below 21 (byte r 0) (c .before .match .rest)) in
+    let past = List·getD-eq-default readings nop-from (not-below 21 (byte r 0) (c .before .match .rest)) in
     rw (c .form-of2 .ensures, past)
 
 pub record-from-spec : {M : Type 1} → statement M

@@ -1,10 +1,10 @@
-use Rattle.kinds.specs.Kinds.{register-branch}
+use Rattle.kinds.specs.Kinds.{register-branch-from}
 use borrow.Author.Needs.{needs}
 use Rattle.kinds.proofs.register_branch_from.Statement.{statement}
 use Rattle.kinds.proofs.register_branch_from.Tie as tie
 
 returns : tie.Need-returns
-unfolding register-branch
+unfolding register-branch-from
 returns c =
     rw (c .form-of .ensures, c .before .register-op-of .ensures)
 

@@ -1,10 +1,10 @@
-use Rattle.kinds.specs.Kinds.{register-shift}
+use Rattle.kinds.specs.Kinds.{register-shift-from}
 use borrow.Author.Needs.{needs}
 use Rattle.kinds.proofs.register_shift_from.Statement.{statement}
 use Rattle.kinds.proofs.register_shift_from.Tie as tie
 
 returns : tie.Need-returns
-unfolding register-shift
+unfolding register-shift-from
 returns c =
     rw (c .form-of .ensures, c .before .shift-of .ensures)
 

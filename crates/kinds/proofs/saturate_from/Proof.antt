@@ -1,10 +1,10 @@
-use Rattle.kinds.specs.Kinds.{saturate}
+use Rattle.kinds.specs.Kinds.{saturate-from}
 use borrow.Author.Needs.{needs}
 use Rattle.kinds.proofs.saturate_from.Statement.{statement}
 use Rattle.kinds.proofs.saturate_from.Tie as tie
 
 returns : tie.Need-returns
-unfolding saturate
+unfolding saturate-from
 returns c =
     rw (c .shift-of .ensures, c .before .form-of .ensures, c .before .before .saturate-op-of .ensures)
 

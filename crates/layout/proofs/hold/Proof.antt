@@ -1,14 +1,14 @@
-use Rattle.layout.specs.Layout.{held, meets, judged-at}
+use Rattle.layout.specs.Layout.{standing, meets, judged-at}
 use borrow.Author.Needs.{needs}
 use Rattle.layout.proofs.hold.Statement.{statement}
 use Rattle.layout.proofs.hold.Tie as tie
 
 returns : tie.Need-returns
-unfolding meets held
+unfolding meets standing
 returns c = rw (c .if1 .taken)
 
 returns-2 : tie.Need-returns-2
-unfolding meets judged-at held
+unfolding meets judged-at standing
 returns-2 c = rw (c .before .before .before .if1 .left, ← c .before .before .read-next .ensures, c .enum-told .given .1)
 
 returns-3 : tie.Need-returns-3

@@ -1,9 +1,8 @@
 use Prim.Native.Nat.{_*_, _%_, _^_}
 use mathlib.Core.Path.{_≡_, sym}
 use native.Mathlib.Omega.{arith}
-use lib.Bits.{or-shifted}
 use borrow.Author.Needs.{needs}
-use Rattle.little.proofs.Laws.{past, little-join}
+use Rattle.little.proofs.Laws.{past, joined-at}
 use Rattle.little.proofs.word_at.Statement.{statement}
 use Rattle.little.proofs.word_at.Tie as tie
 
@@ -16,14 +15,7 @@ returns-2 c =
     let high = c .before .half-at .result in
     let low = c .half-at2 .result in
     let e : high * 2 ^ 16 % 2 ^ 32 ≡ high * 2 ^ 16 = omega arith in
-    rw (
-      e,
-      or-shifted high 16 low (omega arith),
-      little-join 2 2 (a .xs .now) (a .at),
-      ← c .before .half-at .ensures,
-      ← c .half-at2 .ensures,
-    )
-    (omega arith)
+    rw e (joined-at 2 (a .xs .now) (a .at) low high (c .half-at2 .ensures) (c .before .half-at .ensures) (omega arith))
 
 pub word-at-spec : {M : Type 1} → statement M
 word-at-spec =

@@ -25,7 +25,7 @@ returns-5 c = rw (c .before .before .r5 .given .1, ← c .move-a-number .ensures
 
 returns-6 : tie.Need-returns-6
 unfolding effect
-returns-6 c = rw (c .before .before .r6 .given .1, ← c .turn .ensures)
+returns-6 c = rw (c .before .before .r6 .given .1, ← c .operate-unary .ensures)
 
 returns-7 : tie.Need-returns-7
 unfolding effect

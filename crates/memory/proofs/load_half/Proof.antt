@@ -2,7 +2,7 @@ use borrow.Author.Needs.{needs}
 use Prim.Native.Nat.{_*_, _%_, _^_}
 use mathlib.Core.Path.{_≡_}
 use native.Mathlib.Omega.{arith}
-use Rattle.memory.proofs.Laws.{joined}
+use Rattle.memory.proofs.Laws.{joined-loads}
 use Rattle.memory.proofs.load_half.Statement.{statement}
 use Rattle.memory.proofs.load_half.Tie as tie
 
@@ -12,7 +12,7 @@ returns c =
     let high = c .before .load-byte .result in
     let e : high * 2 ^ 8 % 2 ^ 16 ≡ high * 2 ^ 8 = omega arith in
     rw e
-    (joined 1 (a .setup) (a .memory .now) (a .address) (c .load-byte2 .result) high (c .load-byte2 .ensures)
+    (joined-loads 1 (a .setup) (a .memory .now) (a .address) (c .load-byte2 .result) high (c .load-byte2 .ensures)
     (rw (← c .before .before .wrapping-add-u32 .ensures) (c .before .load-byte .ensures)) (omega arith))
 
 pub load-half-spec : {M : Type 1} → statement M

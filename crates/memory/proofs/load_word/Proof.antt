@@ -2,7 +2,7 @@ use borrow.Author.Needs.{needs}
 use Prim.Native.Nat.{_*_, _%_, _^_}
 use mathlib.Core.Path.{_≡_}
 use native.Mathlib.Omega.{arith}
-use Rattle.memory.proofs.Laws.{joined}
+use Rattle.memory.proofs.Laws.{joined-loads}
 use Rattle.memory.proofs.load_word.Statement.{statement}
 use Rattle.memory.proofs.load_word.Tie as tie
 
@@ -12,7 +12,7 @@ returns c =
     let high = c .before .load-half .result in
     let e : high * 2 ^ 16 % 2 ^ 32 ≡ high * 2 ^ 16 = omega arith in
     rw e
-    (joined 2 (a .setup) (a .memory .now) (a .address) (c .load-half2 .result) high (c .load-half2 .ensures)
+    (joined-loads 2 (a .setup) (a .memory .now) (a .address) (c .load-half2 .result) high (c .load-half2 .ensures)
     (rw (← c .before .before .wrapping-add-u32 .ensures) (c .before .load-half .ensures)) (omega arith))
 
 pub load-word-spec : {M : Type 1} → statement M

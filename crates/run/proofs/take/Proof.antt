@@ -3,11 +3,11 @@ use mathlib.Core.Path.{_≡_, sym, ap, _∙_}
 use Prim.Native.Nat.{ℕ}
 use borrow.Author.Needs.{needs}
 use Rattle.layout.specs.Layout.{at-address}
-use Rattle.machine.specs.Access.{Outcome}
+use Rattle.machine.specs.Machine.{Outcome}
 use Rattle.machine.specs.Step.{stepped}
 use Rattle.run.specs.declared.Sight.the-variants.{AtRecord}
 use Rattle.run.specs.Run.{rehearsal, state, agreeing, faced, round-at, round}
-use Rattle.run.specs.Code.{sight, round-kept}
+use Rattle.run.specs.Code.{sight, round-handed}
 use Rattle.run.proofs.Rounds.{step-kept, round-record, round-end, round-stray}
 use Rattle.run.proofs.take.Statement.{statement}
 use Rattle.run.proofs.take.Tie as tie
@@ -32,7 +32,7 @@ returns c =
     ∙ sym (round-record h s (faced h (a .machine)) place (seen (v .before .before) ∙ v .place .given .1))
 
 returns-2 : tie.Need-returns-2
-unfolding round round-kept
+unfolding round round-handed
 returns-2 c =
     let a = c .before .before .before .before .before .before .before .args in
     let h = rehearsal (a .listing .now) (a .base) (a .setup) in
@@ -40,7 +40,7 @@ returns-2 c =
     sym (round-end h s (faced h (a .machine)) (seen (c .before .before) ∙ c .enum-told .given .1))
 
 returns-3 : tie.Need-returns-3
-unfolding round round-kept
+unfolding round round-handed
 returns-3 c =
     let a = c .before .before .before .before .before .before .before .args in
     let h = rehearsal (a .listing .now) (a .base) (a .setup) in

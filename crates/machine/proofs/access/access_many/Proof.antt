@@ -1,15 +1,15 @@
 use borrow.Author.Needs.{needs}
-use Rattle.machine.specs.Access.{multiple-access}
+use Rattle.machine.specs.Access.{multiple-access-effect}
 use Rattle.machine.proofs.access.access_many.Statement.{statement}
 use Rattle.machine.proofs.access.access_many.Tie as tie
 
 returns : tie.Need-returns
-unfolding multiple-access
+unfolding multiple-access-effect
 returns c =
     rw (
       ← c .before .before .before .before .before .before .before .before .before .before .before .register .ensures,
       ← c .before .before .before .before .before .before .before .before .before .before .list-size-of .ensures,
-      ← c .before .before .before .before .before .before .before .before .before .lowest-of .ensures,
+      ← c .before .before .before .before .before .before .before .before .before .lowest-address-of .ensures,
       ← c .before .before .before .before .before .before .before .refusal-of .ensures,
       c .before .before .before .before .before .before .if1 .taken,
       ← c .before .before .before .before .before .new-base-of .ensures,
@@ -18,12 +18,12 @@ returns c =
     )
 
 returns-2 : tie.Need-returns-2
-unfolding multiple-access
+unfolding multiple-access-effect
 returns-2 c =
     rw (
       ← c .before .before .before .before .before .before .register .ensures,
       ← c .before .before .before .before .before .list-size-of .ensures,
-      ← c .before .before .before .before .lowest-of .ensures,
+      ← c .before .before .before .before .lowest-address-of .ensures,
       ← c .before .before .refusal-of .ensures,
       c .before .if1 .left,
       ← c .refuse .ensures,

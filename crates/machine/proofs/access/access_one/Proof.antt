@@ -1,12 +1,12 @@
 use mir.Syntax.{w16}
 use mir.Facts.{toZ-ofZ}
 use borrow.Author.Needs.{needs}
-use Rattle.machine.specs.Access.{access}
+use Rattle.machine.specs.Access.{access-effect}
 use Rattle.machine.proofs.access.access_one.Statement.{statement}
 use Rattle.machine.proofs.access.access_one.Tie as tie
 
 returns : tie.Need-returns
-unfolding access
+unfolding access-effect
 returns c =
     rw (
       ← c .before .before .before .before .before .before .before .before .base .ensures,

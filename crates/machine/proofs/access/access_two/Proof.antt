@@ -1,12 +1,12 @@
 use mir.Syntax.{w16}
 use mir.Facts.{toZ-ofZ}
 use borrow.Author.Needs.{needs}
-use Rattle.machine.specs.Access.{dual-access, dual-made}
+use Rattle.machine.specs.Access.{dual-access-effect, dual-made}
 use Rattle.machine.proofs.access.access_two.Statement.{statement}
 use Rattle.machine.proofs.access.access_two.Tie as tie
 
 returns : tie.Need-returns
-unfolding dual-access dual-made
+unfolding dual-access-effect dual-made
 returns c =
     rw (
       ← c .before .before .before .before .before .before .before .before .before .before .before .base .ensures,
@@ -20,7 +20,7 @@ returns c =
     )
 
 returns-2 : tie.Need-returns-2
-unfolding dual-access dual-made
+unfolding dual-access-effect dual-made
 returns-2 c =
     rw (
       ← c .before .before .before .before .before .before .before .base .ensures,

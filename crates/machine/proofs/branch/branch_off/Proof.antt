@@ -1,10 +1,10 @@
 use borrow.Author.Needs.{needs}
-use Rattle.machine.specs.Branch.{branch}
+use Rattle.machine.specs.Branch.{branch-effect}
 use Rattle.machine.proofs.branch.branch_off.Statement.{statement}
 use Rattle.machine.proofs.branch.branch_off.Tie as tie
 
 returns : tie.Need-returns
-unfolding branch
+unfolding branch-effect
 returns c =
     rw (
       c .finish .ensures,

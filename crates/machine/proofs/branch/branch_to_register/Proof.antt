@@ -1,10 +1,10 @@
-use Rattle.machine.specs.Branch.{register-branch}
+use Rattle.machine.specs.Branch.{register-branch-effect}
 use borrow.Author.Needs.{needs}
 use Rattle.machine.proofs.branch.branch_to_register.Statement.{statement}
 use Rattle.machine.proofs.branch.branch_to_register.Tie as tie
 
 returns : tie.Need-returns
-unfolding register-branch
+unfolding register-branch-effect
 returns c =
     simp (c .land .ensures, c .before .write .ensures, c .before .before .link-if .ensures, c .before .before .before .is-blx-of .ensures, c .before .before .before .before .operand .ensures)
 

@@ -1,10 +1,10 @@
 use borrow.Author.Needs.{needs}
-use Rattle.machine.specs.Branch.{compare-branch}
+use Rattle.machine.specs.Branch.{compare-branch-effect}
 use Rattle.machine.proofs.branch.compare_and_branch.Statement.{statement}
 use Rattle.machine.proofs.branch.compare_and_branch.Tie as tie
 
 returns : tie.Need-returns
-unfolding compare-branch
+unfolding compare-branch-effect
 returns c =
     let s = c .before .before .before in
     rw (
@@ -17,7 +17,7 @@ returns c =
     )
 
 returns-2 : tie.Need-returns-2
-unfolding compare-branch
+unfolding compare-branch-effect
 returns-2 c =
     rw (c .finish2 .ensures, ← c .before .before .before .register .ensures, ← c .before .before .branches-of .ensures, c .before .if1 .left)
 

@@ -1,10 +1,10 @@
-use Rattle.machine.specs.Compute.{add-number}
+use Rattle.machine.specs.Compute.{add-number-effect}
 use borrow.Author.Needs.{needs}
 use Rattle.machine.proofs.compute.add_a_number.Statement.{statement}
 use Rattle.machine.proofs.compute.add_a_number.Tie as tie
 
 returns : tie.Need-returns
-unfolding add-number
+unfolding add-number-effect
 returns c =
     rw (c .settle .ensures, c .before .write .ensures, c .before .before .add .ensures, c .before .before .before .before .base .ensures)
 

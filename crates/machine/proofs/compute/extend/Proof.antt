@@ -1,10 +1,10 @@
-use Rattle.machine.specs.Compute.{extend-done}
+use Rattle.machine.specs.Compute.{extend-effect}
 use borrow.Author.Needs.{needs}
 use Rattle.machine.proofs.compute.extend.Statement.{statement}
 use Rattle.machine.proofs.compute.extend.Tie as tie
 
 returns : tie.Need-returns
-unfolding extend-done
+unfolding extend-effect
 returns c =
     rw (c .settle .ensures, c .before .write .ensures, c .before .before .extend .ensures, c .before .before .before .before .operand .ensures)
 

@@ -1,10 +1,10 @@
-use Rattle.machine.specs.Compute.{move-number}
+use Rattle.machine.specs.Compute.{move-number-effect}
 use borrow.Author.Needs.{needs}
 use Rattle.machine.proofs.compute.move_a_number.Statement.{statement}
 use Rattle.machine.proofs.compute.move_a_number.Tie as tie
 
 returns : tie.Need-returns
-unfolding move-number
+unfolding move-number-effect
 returns c =
     rw (c .settle .ensures, c .before .write .ensures, c .before .before .place-number .ensures, c .before .before .before .operand .ensures)
 

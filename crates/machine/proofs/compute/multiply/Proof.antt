@@ -1,15 +1,15 @@
-use Rattle.machine.specs.Compute.{multiply-done}
+use Rattle.machine.specs.Compute.{multiply-effect}
 use borrow.Author.Needs.{needs}
 use Rattle.machine.proofs.compute.multiply.Statement.{statement}
 use Rattle.machine.proofs.compute.multiply.Tie as tie
 
 returns : tie.Need-returns
-unfolding multiply-done
+unfolding multiply-effect
 returns c =
     rw (← c .before .before .before .before .before .before .before .before .before .operand .ensures, ← c .before .before .before .before .before .before .before .before .operand2 .ensures, ← c .before .before .before .before .before .before .before .operand3 .ensures, ← c .before .before .before .before .before .before .multiply .ensures, ← c .before .before .before .before .before .write .ensures, c .before .before .before .before .if1 .taken, ← c .before .before .with-signs .ensures, ← c .before .with-flags .ensures, ← c .settle .ensures)
 
 returns-2 : tie.Need-returns-2
-unfolding multiply-done
+unfolding multiply-effect
 returns-2 c =
     rw (← c .before .before .before .before .before .before .operand .ensures, ← c .before .before .before .before .before .operand2 .ensures, ← c .before .before .before .before .operand3 .ensures, ← c .before .before .before .multiply .ensures, ← c .before .before .write .ensures, c .before .if1 .left, ← c .settle2 .ensures)
 

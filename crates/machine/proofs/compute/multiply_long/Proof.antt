@@ -1,10 +1,10 @@
 use borrow.Author.Needs.{needs}
-use Rattle.machine.specs.Compute.{long-multiply}
+use Rattle.machine.specs.Compute.{long-multiply-effect}
 use Rattle.machine.proofs.compute.multiply_long.Statement.{statement}
 use Rattle.machine.proofs.compute.multiply_long.Tie as tie
 
 returns : tie.Need-returns
-unfolding long-multiply
+unfolding long-multiply-effect
 returns c =
     rw (
       c .settle .ensures,

@@ -1,10 +1,10 @@
-use Rattle.machine.specs.Compute.{saturate-done}
+use Rattle.machine.specs.Compute.{saturate-effect}
 use borrow.Author.Needs.{needs}
 use Rattle.machine.proofs.compute.saturate.Statement.{statement}
 use Rattle.machine.proofs.compute.saturate.Tie as tie
 
 returns : tie.Need-returns
-unfolding saturate-done
+unfolding saturate-effect
 returns c =
     rw (c .settle .ensures, c .before .with-flags .ensures, c .before .before .with-saturation .ensures, c .before .before .before .before .write .ensures, c .before .before .before .before .before .saturate .ensures, c .before .before .before .before .before .before .before .shifter-of .ensures, c .before .before .before .before .before .before .before .before .before .operand .ensures)
 

@@ -1,10 +1,10 @@
-use Rattle.machine.specs.Compute.{shifted-register}
+use Rattle.machine.specs.Compute.{shifted-register-effect}
 use borrow.Author.Needs.{needs}
 use Rattle.machine.proofs.compute.shift_register.Statement.{statement}
 use Rattle.machine.proofs.compute.shift_register.Tie as tie
 
 returns : tie.Need-returns
-unfolding shifted-register
+unfolding shifted-register-effect
 returns c =
     rw (c .settle .ensures, c .before .operate .ensures, c .before .before .operand2 .ensures, c .before .before .before .shifter-of .ensures, c .before .before .before .before .before .operand .ensures)
 

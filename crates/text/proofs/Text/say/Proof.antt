@@ -3,13 +3,13 @@ use mathlib.Core.Path.{_≡_, refl}
 use native.Mathlib.Omega.{arith}
 use borrow.Author.Needs.{needs}
 use lib.ListN.{length, drop, drop-of-length-le}
-use Rattle.text.specs.Code.{added}
+use Rattle.text.specs.Code.{appended}
 use Rattle.text.proofs.Texts.{added-next}
 use Rattle.text.proofs.Text.say.Statement.{statement}
 use Rattle.text.proofs.Text.say.Tie as tie
 
 abbrev Inv-loop : tie.InvT-loop
-Inv-loop words text₀ i₀ text i = (i ≤ length words) × (added text (drop i words) ≡ added text₀ words)
+Inv-loop words text₀ i₀ text i = (i ≤ length words) × (appended text (drop i words) ≡ appended text₀ words)
 
 abbrev μ-loop : tie.MeasureT-loop
 μ-loop words text₀ i₀ text i = length words - i
@@ -24,7 +24,7 @@ loop-again c =
     (omega arith, rw (c .push .ensures, ← added-next (l .text) words (l .i) (omega arith)) (l .inv .1))
 
 returns : tie.Need-returns Inv-loop μ-loop
-unfolding added
+unfolding appended
 returns c =
     let l = c .before .loop in
     rw (drop-of-length-le (c .before .before .before .args .words .now) {i = l .i} (omega arith)) at (l .inv .1)

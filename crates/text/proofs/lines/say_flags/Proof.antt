@@ -1,11 +1,11 @@
 use Rattle.text.specs.Text.{flags-line}
-use Rattle.text.specs.Code.{added}
+use Rattle.text.specs.Code.{appended}
 use borrow.Author.Needs.{needs}
 use Rattle.text.proofs.lines.say_flags.Statement.{statement}
 use Rattle.text.proofs.lines.say_flags.Tie as tie
 
 returns : tie.Need-returns
-unfolding flags-line added
+unfolding flags-line appended
 returns c =
     let e = c .before .before in
     let b = e .before .before .before .before in

@@ -1,12 +1,12 @@
 use Rattle.text.specs.Text.{register-line}
-use Rattle.text.specs.Code.{added}
+use Rattle.text.specs.Code.{appended}
 use Rattle.text.proofs.Texts.{added-append}
 use borrow.Author.Needs.{needs}
 use Rattle.text.proofs.lines.say_register.Statement.{statement}
 use Rattle.text.proofs.lines.say_register.Tie as tie
 
 returns : tie.Need-returns
-unfolding register-line added
+unfolding register-line appended
 returns c =
     let e = c .before .before in
     rw (

@@ -3,19 +3,19 @@ use mathlib.Core.Path.{_≡_, refl}
 use native.Mathlib.Omega.{arith}
 use borrow.Author.Needs.{needs}
 use Rattle.text.specs.Text.{register-lines}
-use Rattle.text.specs.Code.{added}
+use Rattle.text.specs.Code.{appended}
 use Rattle.text.proofs.Texts.{added-line}
 use Rattle.text.proofs.lines.say_registers.Statement.{statement}
 use Rattle.text.proofs.lines.say_registers.Tie as tie
 
 abbrev Inv-loop : tie.InvT-loop
-Inv-loop registers more₀ i₀ more i = (i ≤ 16) × (more ≡ added more₀ (register-lines i registers))
+Inv-loop registers more₀ i₀ more i = (i ≤ 16) × (more ≡ appended more₀ (register-lines i registers))
 
 abbrev μ-loop : tie.MeasureT-loop
 μ-loop registers more₀ i₀ more i = 16 - i
 
 loop-holds : tie.Need-loop-holds Inv-loop μ-loop
-unfolding register-lines added
+unfolding register-lines appended
 loop-holds c = (omega arith, refl)
 
 loop-again : tie.Need-loop-again Inv-loop μ-loop

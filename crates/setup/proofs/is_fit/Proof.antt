@@ -1,7 +1,7 @@
-use Rattle.memory.specs.Memory.{fits}
+use Rattle.setup.specs.Setup.{fits}
 use borrow.Author.Needs.{needs}
-use Rattle.memory.proofs.is_fit.Statement.{statement}
-use Rattle.memory.proofs.is_fit.Tie as tie
+use Rattle.setup.proofs.is_fit.Statement.{statement}
+use Rattle.setup.proofs.is_fit.Tie as tie
 
 returns : tie.Need-returns
 unfolding fits
