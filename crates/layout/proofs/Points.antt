@@ -87,9 +87,9 @@ pub within-start : (listing : List ℕ) (base : ℕ) → Within listing base (st
 unfolding start
 within-start listing base = record { inside = omega arith; from = omega arith; even = omega arith; to = omega arith }
 
--- places and addresses rise
+-- places and addresses rise: a record has at least two bytes of each
 pub record Rises (p q : Point) : Type 0 where
-  pub places : p .place .0 < q .place .0
+  pub places : p .place .0 + 2 ≤ q .place .0
   pub addresses : p .address .0 < q .address .0
 
 still-even : (base a n : ℕ) → base ≤ a → (a - base) % 2 ≡ 0 → n % 2 ≡ 0 → (a + n - base) % 2 ≡ 0

@@ -111,45 +111,25 @@ module _ (listing : List ℕ) (base : ℕ) where
       go false t =
           either (ltb-false 65536 (length listing) (neither (ltb 65536 (length listing)) (bit 0 base) t .0)) (eqb (first-pass listing base .number) 0)
 
--- ---- the points of an accepted listing
-pub record Landing (listing : List ℕ) (base address : ℕ) : Type 0 where
-  pub point : Point
-  pub on : On listing base point
-  pub at : point .address .0 ≡ address
-  pub waits : point .waiting ≡ nothing
+-- ---- the points of a listing that the first pass leaves
+end-fine : (p : Point) → end-fault p ≡ 0 → (free p ≡ true) × (p .address .0 ≤ 0xFFFFFFFE)
+unfolding end-fault
+end-fine p = go (free p) (ltb 0xFFFFFFFE (p .address .0)) refl refl
+  where
+    go : (f h : Bool) → free p ≡ f → ltb 0xFFFFFFFE (p .address .0) ≡ h
+        → _≡_ {A = ℕ} (if not f then 4 else if h then 1 else 0) 0 → (free p ≡ true) × (p .address .0 ≤ 0xFFFFFFFE)
+    go false h f l e = absurd (omega arith)
+    go true true f l e = absurd (omega arith)
+    go true false f l e = (f, ltb-false 0xFFFFFFFE (p .address .0) l)
 
-module _ (listing : List ℕ) (base : ℕ) (ok : Accepted listing base) where
+module _ (listing : List ℕ) (base : ℕ) (sound : first-pass listing base .number ≡ 0) where
   on-fault : (p : Point) → On listing base p → fault (meets listing p) p ≡ 0
   unfolding first-pass
-  on-fault p o = lowest-none (λ p. fault (meets listing p) p) (layout listing base) (parts listing base ok .first) p o
+  on-fault p o = lowest-none (λ p. fault (meets listing p) p) (layout listing base) sound p o
 
-  on-branch : (p : Point) → On listing base p → branch-fault listing base (meets listing p) p ≡ 0
-  unfolding second-pass
-  on-branch p o = lowest-none (λ p. branch-fault listing base (meets listing p) p) (layout listing base) (parts listing base ok .second) p o
-
-  -- no record is refused
-  pub not-stopped : (p : Point) → On listing base p → (number : ℕ) → meets listing p ≡ Refusal number → ⊥
+  unrefused : (p : Point) → On listing base p → (number : ℕ) → meets listing p ≡ Refusal number → ⊥
   unfolding fault
-  not-stopped p o number e = refused-number listing p number e (rw e at (on-fault p o))
-
-  end-fine : (p : Point) → end-fault p ≡ 0 → (free p ≡ true) × (p .address .0 ≤ 0xFFFFFFFE)
-  unfolding end-fault
-  end-fine p = go (free p) (ltb 0xFFFFFFFE (p .address .0)) refl refl
-    where
-      go : (f h : Bool) → free p ≡ f → ltb 0xFFFFFFFE (p .address .0) ≡ h
-          → _≡_ {A = ℕ} (if not f then 4 else if h then 1 else 0) 0 → (free p ≡ true) × (p .address .0 ≤ 0xFFFFFFFE)
-      go false h f l e = absurd (omega arith)
-      go true true f l e = absurd (omega arith)
-      go true false f l e = (f, ltb-false 0xFFFFFFFE (p .address .0) l)
-
-  free-nothing : (p : Point) → On listing base p → free p ≡ true → p .waiting ≡ nothing
-  unfolding free
-  free-nothing p o f = nothing-waits listing base p o (eqb-true (waiting-count (p .waiting)) 0 f)
-
-  -- at the end nothing waits
-  pub end-waits : (p : Point) → On listing base p → meets listing p ≡ AtEnd → p .waiting ≡ nothing
-  unfolding fault
-  end-waits p o e = free-nothing p o (end-fine p (rw e at (on-fault p o)) .0)
+  unrefused p o number e = refused-number listing p number e (rw e at (on-fault p o))
 
   low : (count : ℕ) (p : Point) → On listing base p → length listing < count + p .place .0 → p .address .0 ≤ 0xFFFFFFFE
   unfolding fault
@@ -162,11 +142,42 @@ module _ (listing : List ℕ) (base : ℕ) (ok : Accepted listing base) where
           let up = rises listing p r q e in
           omega (arith, rest q (next-on listing base p o r q e) (omega arith))
       go rest AtEnd e = end-fine p (rw e at (on-fault p o)) .1
-      go rest (Refusal number) e = absurd (not-stopped p o number e)
+      go rest (Refusal number) e = absurd (unrefused p o number e)
+
+  pub sound-low : (p : Point) → On listing base p → p .address .0 ≤ 0xFFFFFFFE
+  sound-low p o = low (length listing + 1) p o (omega arith)
+
+-- ---- the points of an accepted listing
+pub record Landing (listing : List ℕ) (base address : ℕ) : Type 0 where
+  pub point : Point
+  pub on : On listing base point
+  pub at : point .address .0 ≡ address
+  pub waits : point .waiting ≡ nothing
+
+module _ (listing : List ℕ) (base : ℕ) (ok : Accepted listing base) where
+  sound : first-pass listing base .number ≡ 0
+  sound = parts listing base ok .first
+
+  on-branch : (p : Point) → On listing base p → branch-fault listing base (meets listing p) p ≡ 0
+  unfolding second-pass
+  on-branch p o = lowest-none (λ p. branch-fault listing base (meets listing p) p) (layout listing base) (parts listing base ok .second) p o
+
+  -- no record is refused
+  pub not-stopped : (p : Point) → On listing base p → (number : ℕ) → meets listing p ≡ Refusal number → ⊥
+  not-stopped = unrefused listing base sound
+
+  free-nothing : (p : Point) → On listing base p → free p ≡ true → p .waiting ≡ nothing
+  unfolding free
+  free-nothing p o f = nothing-waits listing base p o (eqb-true (waiting-count (p .waiting)) 0 f)
+
+  -- at the end nothing waits
+  pub end-waits : (p : Point) → On listing base p → meets listing p ≡ AtEnd → p .waiting ≡ nothing
+  unfolding fault
+  end-waits p o e = free-nothing p o (end-fine p (rw e at (on-fault listing base sound p o)) .0)
 
   -- every address is a word's, and even
   pub on-low : (p : Point) → On listing base p → p .address .0 ≤ 0xFFFFFFFE
-  on-low p o = low (length listing + 1) p o (omega arith)
+  on-low = sound-low listing base sound
 
   even-base : base % 2 ≡ 0
   even-base = omega (arith, eqb-false (base / 2 ^ 0 % 2) 1 (parts listing base ok .even))

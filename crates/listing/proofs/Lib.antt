@@ -1,3 +1,6 @@
 pub mod Passes
-pub mod Marking
 pub mod Accepted
+pub mod Halves
+pub mod Entering
+pub mod Tabling
+pub mod Branches

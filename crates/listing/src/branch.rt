@@ -3,24 +3,32 @@
 ghost use mathlib.Core.Path.{_≡_};
 ghost use Prim.Native.Nat.{_≤_};
 ghost use lib.ListN.{length};
-ghost use Rattle.listing.specs.Check.{astray, second-pass};
-ghost use Rattle.listing.specs.Marks.{marked, All-marked};
+ghost use Rattle.listing.specs.Check.{astray, first-pass, second-pass};
+ghost use Rattle.listing.specs.Table.{table, is-listed, Sorted, Tells};
 use crate::Checked;
+use crate::landing::Placed;
 use flow::Way;
 use layout::Address;
 use layout::Seen;
 
 pub fn second_pass_of(listing: &[u8], base: u32) -> Checked
-    requires { ⌜ length (now listing) ≤ 65536 ⌝ }
+    requires { ⌜ (length (now listing) ≤ 65536) × (first-pass (now listing) base .number ≡ 0) ⌝ }
     ensures { λ r. ⌜ r ≡ second-pass (now (listing .entry)) base ⌝ }
 {
-    let mut marks = [0u8; 65537];
-    crate::landing::mark_all(listing, base, &mut marks);
-    lowest_astray(listing, base, &marks)
+    let mut addresses = [0u32; 32769];
+    let mut places = [0u32; 32769];
+    let count = crate::landing::list_all(listing, base, &mut addresses, &mut places);
+    lowest_astray(listing, base, &addresses, &places, count)
 }
 
-fn lowest_astray(listing: &[u8], base: u32, marks: &[u8]) -> Checked
-    requires { ⌜ (length (now listing) ≤ 65536) × All-marked (now marks) (now listing) base ⌝ }
+fn lowest_astray(
+    listing: &[u8],
+    base: u32,
+    addresses: &[u32],
+    places: &[u32],
+    count: usize,
+) -> Checked
+    requires { ⌜ (first-pass (now listing) base .number ≡ 0) × Tells (table (now addresses) (now places) count) (now listing) base ⌝ }
     ensures { λ r. ⌜ r ≡ second-pass (now (listing .entry)) base ⌝ }
 {
     let mut point = layout::start_of(base);
@@ -29,7 +37,7 @@ fn lowest_astray(listing: &[u8], base: u32, marks: &[u8]) -> Checked
         match layout::see(listing, point) {
             Seen::Goes(w, next) => {
                 let address = point.address;
-                let off = is_astray(marks, base, w, address);
+                let off = is_astray(addresses, places, count, w, address);
                 if off {
                     let place = point.place;
                     return Checked { number: 9, place };
@@ -44,14 +52,18 @@ fn lowest_astray(listing: &[u8], base: u32, marks: &[u8]) -> Checked
     crate::accept()
 }
 
-fn is_astray(marks: &[u8], base: u32, w: Way, address: Address) -> bool
-    ensures { λ r. ⌜ r ≡ astray (marked (now (marks .entry)) base) w (address .0) ⌝ }
+fn is_astray(addresses: &[u32], places: &[u32], count: usize, w: Way, address: Address) -> bool
+    requires { ⌜ Sorted (table (now addresses) (now places) count) ⌝ }
+    ensures { λ r. ⌜ r ≡ astray (is-listed (table (now (addresses .entry)) (now (places .entry)) count)) w (address .0) ⌝ }
 {
     match w {
         Way::Next => false,
         Way::Direct(_) => {
             let from = (address.0 % 0x1_0000_0000) as u32;
-            !crate::landing::is_marked(marks, base, flow::target_of(from, w))
+            match crate::landing::place_of(addresses, places, count, flow::target_of(from, w)) {
+                Placed::At(_) => false,
+                Placed::Nowhere => true,
+            }
         }
         Way::Taken => false,
     }

@@ -1,12 +1,19 @@
-// Landing places: a mark for each two machine bytes from the base on.
+// Landing places: a table of their addresses, which rise, and of their places.
 
 ghost use mathlib.Core.Path.{_≡_};
 ghost use Prim.Native.Nat.{_≤_};
 ghost use lib.ListN.{length};
-ghost use Rattle.listing.specs.Check.{free};
-ghost use Rattle.listing.specs.Marks.{marked, Near, Unmarked, One-more, All-marked};
+ghost use Rattle.listing.specs.Check.{free, first-pass};
+ghost use Rattle.listing.specs.Table.{table, Room, entered, looked-up, Rising, Sorted, Parted, Tells};
 use layout::Point;
 use layout::Seen;
+use reading::Place;
+
+// The place of a landing place that was looked for.
+pub enum Placed {
+    At(Place),
+    Nowhere,
+}
 
 pub fn is_free(point: Point) -> bool
     ensures { λ r. ⌜ r ≡ free point ⌝ }
@@ -14,46 +21,71 @@ pub fn is_free(point: Point) -> bool
     point.waiting.count() == 0
 }
 
-pub fn mark_all(listing: &[u8], base: u32, marks: &mut [u8])
-    requires { ⌜ (length (now listing) ≤ 65536) × (length (now marks) ≡ 65537) × Unmarked (now marks) base ⌝ }
-    ensures { λ _. ⌜ All-marked (now (marks .exit)) (now (listing .entry)) base ⌝ }
+// An entry for each landing place, in order: of at most 32,768 records, as each has two bytes or more, and of the end.
+pub fn list_all(listing: &[u8], base: u32, addresses: &mut [u32], places: &mut [u32]) -> usize
+    requires { ⌜ (length (now listing) ≤ 65536) × (first-pass (now listing) base .number ≡ 0)
+        × (length (now addresses) ≡ 32769) × (length (now places) ≡ 32769) ⌝ }
+    ensures { λ r. ⌜ Tells (table (now (addresses .exit)) (now (places .exit)) r) (now (listing .entry)) base ⌝ }
 {
     let mut point = layout::start_of(base);
     let mut left = listing.len() + 1;
+    let mut count = 0;
     while 0 < left {
-        mark(marks, base, point);
+        count = enter(addresses, places, count, point);
         match layout::see(listing, point) {
             Seen::Goes(_, next) => {
                 point = next;
                 left = left - 1;
             }
-            Seen::Ends => return,
-            Seen::Stops(_) => return,
+            Seen::Ends => return count,
+            Seen::Stops(_) => return count,
         }
     }
+    count
 }
 
-fn mark(marks: &mut [u8], base: u32, point: Point)
-    requires { ⌜ Near (length (now marks)) base (point .address .0) ⌝ }
-    ensures { λ _. ⌜ One-more (now (marks .exit)) (now (marks .entry)) base point ⌝ }
+fn enter(addresses: &mut [u32], places: &mut [u32], count: usize, point: Point) -> usize
+    requires { ⌜ Room (table (now addresses) (now places) count) point ⌝ }
+    ensures { λ r. ⌜ table (now (addresses .exit)) (now (places .exit)) r ≡ entered point (table (now (addresses .entry)) (now (places .entry)) count) ⌝ }
 {
     let free = is_free(point);
     if free {
-        let at = ((point.address.0 - base as u64) / 2) as usize;
-        marks[at] = 1;
+        addresses[count] = point.address.0 as u32;
+        places[count] = point.place.0 as u32;
+        return count + 1;
     }
+    count
 }
 
-pub fn is_marked(marks: &[u8], base: u32, address: u32) -> bool
-    ensures { λ r. ⌜ r ≡ marked (now (marks .entry)) base address ⌝ }
+pub fn place_of(addresses: &[u32], places: &[u32], count: usize, address: u32) -> Placed
+    requires { ⌜ Sorted (table (now addresses) (now places) count) ⌝ }
+    ensures { λ r. ⌜ r ≡ looked-up (table (now (addresses .entry)) (now (places .entry)) count) address ⌝ }
 {
-    if address < base {
-        return false;
+    let at = entries_below(addresses, count, address);
+    if count <= at {
+        return Placed::Nowhere;
     }
-    let ahead = address - base;
-    let at = (ahead / 2) as usize;
-    if marks.len() <= at {
-        return false;
+    let here = addresses[at] == address;
+    if here {
+        return Placed::At(Place(places[at] as usize));
     }
-    (ahead % 2 == 0) & (marks[at] == 1)
+    Placed::Nowhere
+}
+
+// How many entries are below an address, by halves: those before `low` are, those from `high` on are not.
+fn entries_below(addresses: &[u32], count: usize, address: u32) -> usize
+    requires { ⌜ (count ≤ length (now addresses)) × Rising (now addresses) count ⌝ }
+    ensures { λ r. ⌜ Parted (now (addresses .entry)) count address r r ⌝ }
+{
+    let mut low = 0;
+    let mut high = count;
+    while low < high {
+        let middle = low + (high - low) / 2;
+        if addresses[middle] < address {
+            low = middle + 1;
+        } else {
+            high = middle;
+        }
+    }
+    low
 }

@@ -1,10 +1,12 @@
 use Prim.Native.Nat.{_≤_}
+use mathlib.Core.Path.{sym, ap, _∙_}
+use borrow.Author.Tests.{ltb-false, eqb-true}
+use borrow.Author.Needs.{needs}
 use lib.ListN.{length}
 use lib.Dec.{ltb}
-use borrow.Author.Tests.{ltb-false}
 use Rattle.word.proofs.Cases.{neither}
+use Rattle.listing.specs.declared.Checked.{Checked}
 use Rattle.listing.specs.Check.{checked}
-use borrow.Author.Needs.{needs}
 use Rattle.listing.proofs.check.Statement.{statement}
 use Rattle.listing.proofs.check.Tie as tie
 
@@ -22,7 +24,9 @@ first-pass-of-requires : tie.Need-first-pass-of-requires
 first-pass-of-requires c κs = fits c
 
 second-pass-of-requires : tie.Need-second-pass-of-requires
-second-pass-of-requires c κs = fits (c .before .before .before)
+second-pass-of-requires c κs =
+    let first = c .before .before .first-pass-of in
+    (fits (c .before .before .before), ap (λ (x : Checked). x .number) (sym (first .ensures)) ∙ eqb-true (first .result .number) 0 (c .if2 .taken))
 
 returns-2 : tie.Need-returns-2
 unfolding checked

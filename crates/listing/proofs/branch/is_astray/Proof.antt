@@ -1,6 +1,9 @@
-use Rattle.listing.proofs.Marking.{target-mod}
-use Rattle.listing.specs.Check.{astray}
+use mathlib.Core.Path.{_≡_}
+use mathlib.Core.Bool.{not}
 use borrow.Author.Needs.{needs}
+use Rattle.listing.specs.Table.{table, there, is-listed}
+use Rattle.listing.specs.Check.{astray}
+use Rattle.listing.proofs.Branches.{astray-by}
 use Rattle.listing.proofs.branch.is_astray.Statement.{statement}
 use Rattle.listing.proofs.branch.is_astray.Tie as tie
 
@@ -8,20 +11,21 @@ returns : tie.Need-returns
 unfolding astray
 returns c = rw (c .enum-told .given .1)
 
+by-table : (c : tie.After-place-of) → let a = c .before .before .before .before .before .before .before .args in
+    not (there (c .place-of .result)) ≡ astray (is-listed (table (a .addresses .now) (a .places .now) (a .count))) (a .w) (a .address .0)
+by-table c =
+    let a = c .before .before .before .before .before .before .before .args in
+    astray-by _ (a .w) (a .address .0) _ _ _ (c .before .target-of .ensures) (c .before .before .before .enum-told2 .given .1) (c .place-of .ensures)
+
 returns-2 : tie.Need-returns-2
-unfolding astray
-returns-2 c =
-    let a = c .before .before .before .before .before .before .args in
-    rw (
-      c .is-marked .ensures,
-      c .before .target-of .ensures,
-      target-mod (a .address .0) (a .w),
-      c .before .before .before .enum-told2 .given .1,
-    )
+returns-2 c = rw (c .enum-told3 .given .1) at (by-table (c .before .before))
 
 returns-3 : tie.Need-returns-3
+returns-3 c = rw (c .enum-told4 .given .1) at (by-table (c .before .before))
+
+returns-4 : tie.Need-returns-4
 unfolding astray
-returns-3 c = rw (c .enum-told3 .given .1)
+returns-4 c = rw (c .enum-told5 .given .1)
 
 pub is-astray-spec : {M : Type 1} → statement M
-is-astray-spec = tie.close (tie.spec (λ c. search needs) (λ c. search needs) (λ c. search needs) (λ c κs. search needs) (λ c κs. search needs) (λ c. search needs) returns returns-2 returns-3)
+is-astray-spec = tie.close (tie.spec (λ c. search needs) (λ c. search needs) (λ c. search needs) (λ c κs. search needs) (λ c κs. search needs) (λ c. search needs) (λ c. search needs) (λ c. search needs) returns returns-2 returns-3 returns-4)

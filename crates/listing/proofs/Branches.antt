@@ -1,0 +1,55 @@
+-- What the table of landing places says of a branch.
+use Prim.Native.Nat.{ℕ, _+_, _%_, _^_}
+use mathlib.Core.Path.{_≡_, refl, ap, _∙_}
+use mathlib.Core.Bool.{Bool, true, false, not, _||_}
+use mathlib.Core.List.{List, [], _∷_}
+use native.Mathlib.Omega.{arith}
+use lib.IntN.{ℤ}
+use Rattle.word.specs.Choice.{if_then_else_}
+use Rattle.flow.specs.Flow.{target}
+use Rattle.flow.specs.declared.Way.{Way}
+use Rattle.flow.specs.declared.Way.the-variants.{Next, Direct, Taken}
+use Rattle.layout.specs.declared.Point.{Point}
+use Rattle.layout.specs.Layout.{meets, layout}
+use Rattle.layout.proofs.Turns.{Passed}
+use Rattle.listing.specs.declared.landing.Placed.{Placed}
+use Rattle.listing.specs.declared.landing.Placed.the-variants.{At}
+use Rattle.listing.specs.Check.{lands-at, lands, landing, astray, branch-fault}
+use Rattle.listing.specs.Table.{Table, looked-up, there, is-listed, landing-place, Tells}
+
+pub target-mod : (address : ℕ) (w : Way) → target (address % 2 ^ 32) w ≡ target address w
+unfolding target
+target-mod address Next = refl
+target-mod address (Direct offset) = let e : (address % 2 ^ 32 + 4) % 2 ^ 32 ≡ (address + 4) % 2 ^ 32 = omega arith in rw e
+target-mod address Taken = refl
+
+-- a direct branch is astray where its target is not found
+pub astray-by : (t : Table) (w : Way) (address to : ℕ) (found : Placed) (offset : ℤ) → to ≡ target (address % 2 ^ 32) w → w ≡ Direct offset
+    → found ≡ looked-up t to → not (there found) ≡ astray (is-listed t) w address
+unfolding astray
+astray-by t w address to found offset e f g = rw (g, e, target-mod address w, f)
+
+place-lands : (address : ℕ) (ps : List Point) → there (landing-place address ps) ≡ lands address ps
+unfolding landing-place lands
+place-lands address [] = refl
+place-lands address (p ∷ ps) = go (place-lands address ps) (lands-at address p)
+  where
+    go : there (landing-place address ps) ≡ lands address ps → (t : Bool)
+        → there (if t then At (p .place) else landing-place address ps) ≡ (t || lands address ps)
+    go rest true = refl
+    go rest false = rest
+
+astray-same : (f g : ℕ → Bool) → ((address : ℕ) → f address ≡ g address) → (w : Way) (address : ℕ) → astray f w address ≡ astray g w address
+unfolding astray
+astray-same f g same Next address = refl
+astray-same f g same (Direct offset) address = rw (same (target address (Direct offset)))
+astray-same f g same Taken address = refl
+
+-- the number of a record by the table
+pub branch-number : (listing : List ℕ) (base : ℕ) (t : Table) → Tells t listing base → (p : Point) (w : Way) (q : Point) → Passed listing p w q
+    → (off : Bool) → off ≡ astray (is-listed t) w (p .address .0) → branch-fault listing base (meets listing p) p ≡ (if off then 9 else 0)
+unfolding branch-fault landing
+branch-number listing base t tells p w q g off e =
+    let same : (address : ℕ) → is-listed t address ≡ landing listing base address =
+    λ address. ap there (tells .all address) ∙ place-lands address (layout listing base) in
+    rw (g .goes, ← g .leads, ← astray-same (is-listed t) (landing listing base) same w (p .address .0), ← e)
