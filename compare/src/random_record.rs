@@ -98,7 +98,7 @@ pub fn fitting(prng: &mut Prng, kind: u8, waiting: usize) -> Option<Vec<u8>> {
     for _ in 0..16 {
         let mut record = record_of(prng, kind);
         bind(&mut record);
-        if second::record::judge(&record, waiting) == 0 {
+        if second::judge::judge(&record, waiting) == 0 {
             return Some(record);
         }
     }

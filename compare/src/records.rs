@@ -25,7 +25,7 @@ pub fn run() -> Result<String, String> {
 
 /// The sweeps go around the stock, so a record in it that is not done would make them poorer.
 fn good(stock: &[Vec<u8>]) -> Outcome {
-    match stock.iter().find(|record| second::record::judge(record, 0) != 0) {
+    match stock.iter().find(|record| second::judge::judge(record, 0) != 0) {
         Some(record) => Err(format!("stock: {record:02X?} is no good record")),
         None => Ok(()),
     }

@@ -1,7 +1,7 @@
 //! Kinds 0D to 10. The order of the tests is that of their numbers: alignment (5), memory (6), then
 //! what goes to registers (7). Stores come last, for "a refused step writes nothing".
 
-use crate::machine::{Machine, PC};
+use crate::machine::{Machine, Register, PC};
 use crate::memory::Memory;
 use crate::number::{Number, UNALIGNED};
 use crate::record::*;

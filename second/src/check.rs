@@ -1,10 +1,10 @@
 //! The layout of a listing: blocks, landing places, and the check.
 
-use crate::machine::Waiting;
 use crate::number::{Number, DONE, MISPLACED, NO_LANDING, UNFIT};
 use crate::read::read;
 use crate::record::{Action, Control, Record};
 use crate::rules::refusal;
+use crate::waiting::Waiting;
 
 const LIMIT: usize = 65_536;
 const HIGHEST_END: u64 = 0xFFFF_FFFE;

@@ -1,6 +1,6 @@
 //! Kinds 01 to 0C. Operands come from the machine as it is, results go to the next one.
 
-use crate::machine::Machine;
+use crate::machine::{Machine, Register};
 use crate::number::Number;
 use crate::record::*;
 use crate::word;

@@ -1,7 +1,8 @@
 //! A machine as 74 bytes: R0 to R15 as little-endian words, N Z C V Q a byte each, the count of
 //! waiting conditions, and four conditions, 0 past the count.
 
-use crate::machine::{Machine, Waiting};
+use crate::machine::Machine;
+use crate::waiting::Waiting;
 
 pub const BYTES: usize = 74;
 const FLAGS: usize = 64;

@@ -1,8 +1,9 @@
 //! Reading a record. Every rule under "Records" that is broken is number 2.
 
-use crate::machine::PC;
+use crate::machine::{Register, PC};
 use crate::number::{Number, MALFORMED};
 use crate::record::*;
+use crate::waiting::{Condition, AL};
 use crate::word;
 
 /// "One byte of kind (hex), then a body whose length the kind fixes", from kind 01. Kinds 14 and 15

@@ -1,14 +1,8 @@
 //! A record, read and taken apart. The names are those of paper 01's table, in its order.
 
-use crate::machine::PC;
-use crate::number::{Number, DONE};
+use crate::machine::{Register, PC};
+use crate::waiting::Condition;
 use crate::word;
-
-pub type Register = u8;
-
-pub type Condition = u8;
-/// The last of "EQ NE CS CC MI PL VS VC HI LS GE LT GT LE AL".
-pub const AL: Condition = 14;
 
 #[derive(Clone, Copy, PartialEq, Eq, Debug)]
 pub enum Op {
@@ -223,13 +217,5 @@ impl Record {
             }
             _ => false,
         }
-    }
-}
-
-/// The lowest of numbers 2, 3 and 4 for bytes that must be "one record and no more", or 0.
-pub fn judge(bytes: &[u8], waiting: usize) -> Number {
-    match crate::read::read_one(bytes) {
-        Ok(record) => crate::rules::refusal(&record, waiting).unwrap_or(DONE),
-        Err(number) => number,
     }
 }

@@ -1,8 +1,9 @@
 //! "Restricted (3)" and "Block spots (4)".
 
-use crate::machine::{LR, PC, SP};
+use crate::machine::{Register, LR, PC, SP};
 use crate::number::{Number, MISPLACED, RESTRICTED};
 use crate::record::*;
+use crate::waiting::AL;
 use crate::word;
 
 /// Number 3 or 4, the lower first, for a record that was read.
@@ -16,7 +17,7 @@ pub fn refusal(record: &Record, waiting: usize) -> Option<Number> {
     }
 }
 
-pub fn restricted(record: &Record) -> bool {
+fn restricted(record: &Record) -> bool {
     match &record.action {
         Action::Compute(compute) => compute_restricted(compute, record.s),
         Action::Access(access) => access_restricted(access),
@@ -150,6 +151,6 @@ fn only_last(record: &Record) -> bool {
     record.takes_address() || record.direct_target(0).is_some()
 }
 
-pub fn misplaced(record: &Record, waiting: usize) -> bool {
+fn misplaced(record: &Record, waiting: usize) -> bool {
     waiting > 0 && only_outside(record) || waiting > 1 && only_last(record)
 }

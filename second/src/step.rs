@@ -2,12 +2,13 @@
 
 use crate::access::access;
 use crate::compute::compute;
-use crate::machine::{Machine, Waiting, LR, PC};
+use crate::machine::{Machine, LR, PC};
 use crate::memory::Memory;
 use crate::number::{Number, DONE, UNFIT};
 use crate::read::read_one;
-use crate::record::{Action, Condition, Control, Record, AL};
+use crate::record::{Action, Control, Record};
 use crate::rules::refusal;
+use crate::waiting::{Condition, Waiting, AL};
 use crate::word;
 
 /// The number 0 to 7. Machine and memory change only with 0: "A refused step writes nothing."

@@ -4,9 +4,10 @@ mod common;
 use common::*;
 use second::check::check;
 use second::image::{decode, encode};
+use second::judge::judge;
 use second::machine::Machine;
 use second::read::read;
-use second::record::{judge, Action, Control};
+use second::record::{Action, Control};
 use second::run::{run, Ran};
 use second::step::step;
 

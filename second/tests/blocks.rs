@@ -3,8 +3,9 @@
 mod common;
 use common::*;
 use second::check::check;
+use second::judge::judge;
 use second::machine::Machine;
-use second::record::{judge, Action, Control};
+use second::record::{Action, Control};
 use second::run::{run, Ran};
 
 /// The numbers with 0 to 4 conditions waiting.

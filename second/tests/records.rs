@@ -1,6 +1,6 @@
 //! The rules under "Records": each limit of a field from both sides.
 
-use second::record::judge;
+use second::judge::judge;
 
 fn read(record: &[u8]) -> bool {
     judge(record, 0) != 2

@@ -2,7 +2,7 @@
 
 mod common;
 use common::*;
-use second::record::judge;
+use second::judge::judge;
 
 fn usual(registers: &[u8]) -> bool {
     registers.iter().all(|&register| register != 13 && register != 15)

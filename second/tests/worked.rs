@@ -2,8 +2,8 @@
 
 mod common;
 use common::*;
+use second::judge::judge;
 use second::machine::Machine;
-use second::record::judge;
 use second::run::{run, Ran};
 
 struct Row {

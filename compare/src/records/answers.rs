@@ -37,7 +37,7 @@ impl Comparison {
 
     fn judge(&mut self, bytes: &[u8]) -> Outcome {
         for waiting in WAITING {
-            let second = second::record::judge(bytes, waiting as usize);
+            let second = second::judge::judge(bytes, waiting as usize);
             let proved = proved::judge(bytes, waiting);
             if proved != second {
                 let question = format!("judge with {waiting} waiting");

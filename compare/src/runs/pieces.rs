@@ -109,7 +109,7 @@ impl Author<'_> {
             if kind == 0x08 {
                 record[4] = (record[3] + 1) % 6;
             }
-            if second::record::judge(&record, waiting) == 0 {
+            if second::judge::judge(&record, waiting) == 0 {
                 break record;
             }
         };

@@ -1,7 +1,8 @@
 //! What the tests share. Each test file uses some of it.
 #![allow(dead_code)]
 
-use second::machine::{Machine, Waiting};
+use second::machine::Machine;
+use second::waiting::Waiting;
 
 pub const BASE: u32 = 0x2000_0000;
 
