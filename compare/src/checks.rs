@@ -8,6 +8,7 @@ pub mod long;
 mod samples;
 mod tally;
 
+use crate::counts::fewer;
 use crate::prng::Prng;
 use crate::{hex, proved, random_record, Outcome};
 use listing::{accepted, end_of};
@@ -18,7 +19,7 @@ const LISTINGS: usize = 100_000;
 /// Where a listing of any length fits.
 const BASE: u32 = 0x1000;
 
-pub fn run(seed: u64) -> Result<String, String> {
+pub fn run(least: u64, seed: u64) -> Result<String, String> {
     let mut comparison = Comparison { seed, tally: Tally::new() };
     let mut prng = Prng::new(seed);
     fixed::empty(&mut comparison)?;
@@ -30,7 +31,7 @@ pub fn run(seed: u64) -> Result<String, String> {
         random(&mut comparison, &mut prng)?;
     }
     let (tally, listings) = (&comparison.tally, comparison.tally.listings());
-    match tally.gaps() {
+    match tally.gaps().into_iter().chain(fewer(listings, least)).collect::<Vec<_>>() {
         gaps if gaps.is_empty() => {
             Ok(format!("{tally}checks: {listings} listings compared, no difference (seed {seed})"))
         }

@@ -4,6 +4,7 @@
 
 mod bench;
 mod checks;
+mod counts;
 mod hex;
 mod image;
 mod prng;
@@ -24,9 +25,10 @@ mod worked;
 use std::process::ExitCode;
 
 const USAGE: &str =
-    "usage: compare records | steps [SEED] | checks [SEED] | runs [SEED] | texts [SEED]
-     | bench | worked-steps FILE LEAST | worked-checks FILE LEAST | worked-runs FILE LEAST
-SEED and LEAST, the fewest cases that a file has to have, are decimal numbers.";
+    "usage: compare records LEAST | steps LEAST [SEED] | checks LEAST [SEED] | runs LEAST [SEED]
+     | texts LEAST [SEED] | bench
+     | worked-steps FILE LEAST | worked-checks FILE LEAST | worked-runs FILE LEAST
+SEED and LEAST, the fewest questions or cases that there have to be, are decimal numbers.";
 
 /// An error is a text that says what differs.
 type Outcome = Result<(), String>;
@@ -53,15 +55,15 @@ fn main() -> ExitCode {
 /// None for words that call nothing.
 fn outcome(words: &[&str]) -> Option<Result<String, String>> {
     let outcome = match words {
-        ["records"] => records::run(),
-        ["steps"] => steps::run(steps::SEED),
-        ["steps", seed] => steps::run(seed.parse().ok()?),
-        ["checks"] => checks::run(checks::SEED),
-        ["checks", seed] => checks::run(seed.parse().ok()?),
-        ["runs"] => runs::run(runs::SEED),
-        ["runs", seed] => runs::run(seed.parse().ok()?),
-        ["texts"] => texts::run(texts::SEED),
-        ["texts", seed] => texts::run(seed.parse().ok()?),
+        ["records", least] => records::run(least.parse().ok()?),
+        ["steps", least] => steps::run(least.parse().ok()?, steps::SEED),
+        ["steps", least, seed] => steps::run(least.parse().ok()?, seed.parse().ok()?),
+        ["checks", least] => checks::run(least.parse().ok()?, checks::SEED),
+        ["checks", least, seed] => checks::run(least.parse().ok()?, seed.parse().ok()?),
+        ["runs", least] => runs::run(least.parse().ok()?, runs::SEED),
+        ["runs", least, seed] => runs::run(least.parse().ok()?, seed.parse().ok()?),
+        ["texts", least] => texts::run(least.parse().ok()?, texts::SEED),
+        ["texts", least, seed] => texts::run(least.parse().ok()?, seed.parse().ok()?),
         ["worked-steps", file, least] => worked::steps(file, least.parse().ok()?),
         ["worked-checks", file, least] => worked::checks(file, least.parse().ok()?),
         ["worked-runs", file, least] => worked::runs(file, least.parse().ok()?),

@@ -6,16 +6,17 @@ mod random;
 mod sweeps;
 mod tally;
 
+use crate::counts::fewer;
 use crate::{stock, Outcome};
 use answers::Comparison;
 
-pub fn run() -> Result<String, String> {
+pub fn run(least: u64) -> Result<String, String> {
     let mut comparison = Comparison::new();
     let stock = stock::stock();
     good(&stock)?;
     sweep(&mut comparison, &stock)?;
     let tally = comparison.tally();
-    match tally.gaps() {
+    match tally.gaps().into_iter().chain(fewer(tally.strings(), least)).collect::<Vec<_>>() {
         gaps if gaps.is_empty() => {
             Ok(format!("{tally}records: {} compared, no difference", tally.strings()))
         }

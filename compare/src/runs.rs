@@ -1,6 +1,5 @@
 //! Runs: number, place and count, the machine's image and every byte of memory.
 
-mod counts;
 mod demand;
 mod long;
 pub mod pieces;
@@ -13,6 +12,7 @@ mod tally;
 mod trace;
 pub mod writer;
 
+use crate::counts::fewer;
 use crate::prng::Prng;
 use crate::question::run::{Answer, Question};
 use crate::question::Sides;
@@ -26,7 +26,7 @@ const USED_UP: u32 = 10;
 /// Steps enough for nearly every program that has an end.
 const ENOUGH: u32 = 400;
 
-pub fn run(seed: u64) -> Result<String, String> {
+pub fn run(least: u64, seed: u64) -> Result<String, String> {
     let mut prng = Prng::new(seed);
     let mut comparison = Comparison::new(seed);
     samples::all(&mut comparison)?;
@@ -35,9 +35,10 @@ pub fn run(seed: u64) -> Result<String, String> {
         comparison.scene(&mut prng)?;
     }
     let Comparison { sides, tally, demand } = comparison;
-    match [tally.gaps(), demand.gaps()].concat() {
+    let count = sides.count();
+    let few = fewer(count, least).into_iter().collect();
+    match [tally.gaps(), demand.gaps(), few].concat() {
         gaps if gaps.is_empty() => {
-            let count = sides.count();
             Ok(format!("{tally}{demand}runs: {count} compared, no difference (seed {seed})"))
         }
         gaps => Err(format!("{tally}{demand}runs: not all was tried: {}", gaps.join("; "))),

@@ -8,6 +8,7 @@ mod sights;
 mod spoil;
 mod tally;
 
+use crate::counts::fewer;
 use crate::prng::Prng;
 use crate::question::step::Question;
 use crate::question::Sides;
@@ -20,7 +21,7 @@ const STEPS: u64 = 2_000_000;
 /// With memory at its limit, which takes long to compare.
 const LARGE: u64 = 1_000;
 
-pub fn run(seed: u64) -> Result<String, String> {
+pub fn run(least: u64, seed: u64) -> Result<String, String> {
     let (mut prng, stock) = (Prng::new(seed), stock());
     let mut comparison = Comparison { sides: Sides::new("step", seed), tally: Tally::new() };
     for _ in 0..STEPS {
@@ -30,7 +31,7 @@ pub fn run(seed: u64) -> Result<String, String> {
         comparison.put(&large::question(&mut prng, &stock))?;
     }
     let (tally, count) = (comparison.tally, comparison.sides.count());
-    match tally.gaps() {
+    match tally.gaps().into_iter().chain(fewer(count, least)).collect::<Vec<_>>() {
         gaps if gaps.is_empty() => {
             Ok(format!("{tally}steps: {count} compared, no difference (seed {seed})"))
         }

@@ -4,6 +4,7 @@ mod fixed;
 mod listing;
 mod tally;
 
+use crate::counts::fewer;
 use crate::prng::Prng;
 use crate::question::run::Answer;
 use crate::question::Question as _;
@@ -26,7 +27,7 @@ const SHORT: usize = 24;
 const DEAR_ROOMS: usize = 2;
 const USED_UP: u32 = 10;
 
-pub fn run(seed: u64) -> Result<String, String> {
+pub fn run(least: u64, seed: u64) -> Result<String, String> {
     let mut prng = Prng::new(seed);
     let mut comparison = Comparison { seed, count: 0, tally: Tally::new() };
     fixed::samples(&mut comparison)?;
@@ -48,7 +49,7 @@ pub fn run(seed: u64) -> Result<String, String> {
         random += 1;
     }
     let Comparison { count, tally, .. } = comparison;
-    match tally.gaps() {
+    match tally.gaps().into_iter().chain(fewer(count, least)).collect::<Vec<_>>() {
         gaps if gaps.is_empty() => {
             let compared = format!("{count} listings compared, {random} of them random");
             Ok(format!("{tally}texts: {compared}, no difference (seed {seed})"))

@@ -3,14 +3,14 @@
 //! with 8 only where the last step took its next address from a register or from memory. A refused
 //! run leaves what the steps before it left.
 
-use super::counts::Counts;
+use crate::counts::Counts;
 use crate::image::{self, COUNT};
 use crate::question::run::{Answer, Question, ROOM};
 use crate::question::Question as _;
 use crate::{proved, Outcome};
 use std::fmt;
 
-const LEAST: u64 = 20_000;
+const LEAST: u64 = 40_000;
 const FEW: u64 = 20;
 const SP: usize = 13;
 const PC: usize = 15;

@@ -1,10 +1,10 @@
 //! How the runs began and ended, and whether all that is to be tried was.
 
-use super::counts::Counts;
 use super::scene::{Lies, MEMORIES};
 use super::sights::SIGHTS;
 use super::start::{Start, STARTS};
 use super::trace::trace;
+use crate::counts::Counts;
 use crate::question::run::{Answer, Question, ROOM};
 use std::fmt;
 

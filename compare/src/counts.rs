@@ -39,3 +39,8 @@ impl<const SORTS: usize> fmt::Display for Counts<SORTS> {
         write!(f, "{}: {}", self.title, each.join(", "))
     }
 }
+
+/// What is to be told where fewer were compared than there were once.
+pub fn fewer(count: u64, least: u64) -> Option<String> {
+    (count < least).then(|| format!("{count} compared, where there are to be at least {least}"))
+}
