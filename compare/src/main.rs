@@ -5,6 +5,7 @@
 mod bench;
 mod checks;
 mod counts;
+mod cover;
 mod hex;
 mod image;
 mod prng;
@@ -15,6 +16,7 @@ mod random_record;
 mod records;
 mod runs;
 mod samples;
+mod shapes;
 mod steps;
 mod stock;
 mod table;

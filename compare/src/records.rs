@@ -11,8 +11,8 @@ use crate::{stock, Outcome};
 use answers::Comparison;
 
 pub fn run(least: u64) -> Result<String, String> {
-    let mut comparison = Comparison::new();
     let stock = stock::stock();
+    let mut comparison = Comparison::new(&stock);
     good(&stock)?;
     sweep(&mut comparison, &stock)?;
     let tally = comparison.tally();

@@ -4,6 +4,32 @@ pub const KINDS: usize = 21;
 /// "Names in a row are ops 0, 1, 2 and on": how many a kind has, from kind 01. Kinds 14 and 15 have
 /// no op byte and count as one op.
 pub const OPS: [u8; KINDS] = [16, 16, 4, 2, 2, 5, 3, 4, 2, 2, 4, 4, 8, 8, 2, 4, 2, 2, 2, 1, 1];
+/// "One byte of kind (hex), then a body whose length the kind fixes", together, from kind 01.
+pub const LENGTHS: [usize; KINDS] = [8, 9, 6, 7, 6, 5, 7, 7, 6, 8, 7, 6, 8, 7, 9, 7, 8, 4, 5, 5, 2];
+/// The bytes of a record that are registers, from kind 01.
+pub const REGISTERS: [&[usize]; KINDS] = [
+    &[3, 4, 5],
+    &[3, 4],
+    &[3, 4, 5],
+    &[3, 4],
+    &[3],
+    &[3, 4],
+    &[3, 4, 5, 6],
+    &[3, 4, 5, 6],
+    &[3, 4, 5],
+    &[3, 5],
+    &[3, 4],
+    &[3, 4],
+    &[3, 4],
+    &[3, 4, 5],
+    &[3, 4, 5],
+    &[3],
+    &[],
+    &[3],
+    &[3],
+    &[],
+    &[],
+];
 /// B and BL, CBZ and CBNZ, and NOP stand nowhere under "Restricted"; CBZ has no R13 or R15 to name.
 const NEVER_RESTRICTED: [usize; 3] = [0x11, 0x13, 0x15];
 /// ADD and MOV to R15, MULS, LDR to R15 by two kinds, loads of 15, branches, IT. R15 as Rd of 02 and
@@ -32,9 +58,34 @@ pub fn op_of(record: &[u8]) -> usize {
     }
 }
 
+/// Where in a record its form byte is.
+pub fn form_place(record: &[u8]) -> usize {
+    if record[0] < 0x14 {
+        2
+    } else {
+        1
+    }
+}
+
 /// The form byte of a record: bit 0 is S, bit 1 is set for 4 machine bytes.
 pub fn form_of(record: &[u8]) -> u8 {
-    record[if record[0] < 0x14 { 2 } else { 1 }]
+    record[form_place(record)]
+}
+
+/// The forms that a kind and op can have, as a bit each. "S may be 1 only in 01, 02, 03 and MUL";
+/// "for the last four .. S is 1"; "Kinds 12, 13, 14 are 2 machine bytes, BL is 4". Bit 0 is form 0:
+/// no S, 2 machine bytes.
+pub fn possible_forms(kind: usize, op: usize) -> u8 {
+    if kind == 0 || op >= usize::from(OPS[kind - 1]) {
+        return 0;
+    }
+    match (kind, op) {
+        (0x01 | 0x02, 12..=15) => 0b1010,
+        (0x01..=0x03, _) | (0x07, 0) => 0b1111,
+        (0x11, 1) => 0b0100,
+        (0x12..=0x14, _) => 0b0001,
+        _ => 0b0101,
+    }
 }
 
 /// Whether a step with bytes of this kind, 0 for none, can end with the number.

@@ -17,8 +17,8 @@ pub struct Comparison {
 }
 
 impl Comparison {
-    pub fn new() -> Comparison {
-        Comparison { tally: Tally::new(), listing: Vec::new() }
+    pub fn new(stock: &[Vec<u8>]) -> Comparison {
+        Comparison { tally: Tally::new(stock), listing: Vec::new() }
     }
 
     pub fn tally(&self) -> &Tally {

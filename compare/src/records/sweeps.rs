@@ -24,7 +24,7 @@ pub fn single_bytes(comparison: &mut Comparison, stock: &[Vec<u8>]) -> Outcome {
     Ok(())
 }
 
-/// Each shorter length, none among them, and one byte more.
+/// Each shorter length, none among them, and one byte more or two.
 pub fn lengths(comparison: &mut Comparison, stock: &[Vec<u8>]) -> Outcome {
     for record in stock {
         for length in 0..record.len() {
@@ -32,6 +32,7 @@ pub fn lengths(comparison: &mut Comparison, stock: &[Vec<u8>]) -> Outcome {
         }
         for value in 0..=255 {
             comparison.bytes(&[record, &[value][..]].concat())?;
+            comparison.bytes(&[record, &[value, 255 - value][..]].concat())?;
         }
     }
     Ok(())

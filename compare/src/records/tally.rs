@@ -1,6 +1,7 @@
 //! How often each answer was compared, and whether that is all that paper 01 has.
 
-use crate::table::{self, KINDS, OPS};
+use crate::shapes::Shapes;
+use crate::table::{self, possible_forms, KINDS};
 use std::fmt;
 
 const NUMBERS: [usize; 4] = [0, 2, 3, 4];
@@ -14,12 +15,14 @@ pub struct Tally {
     ways: [u64; 4],
     /// By machine bytes, 0 for no record.
     measured: [u64; 5],
+    shapes: Shapes,
 }
 
 impl Tally {
-    pub fn new() -> Tally {
+    pub fn new(stock: &[Vec<u8>]) -> Tally {
         let (judged, done) = ([[0; 5]; KINDS + 1], [[0; 16]; KINDS + 1]);
-        Tally { strings: 0, judged, done, ways: [0; 4], measured: [0; 5] }
+        let shapes = Shapes::new(stock);
+        Tally { strings: 0, judged, done, ways: [0; 4], measured: [0; 5], shapes }
     }
 
     pub fn string(&mut self) {
@@ -33,9 +36,13 @@ impl Tally {
     pub fn judged(&mut self, bytes: &[u8], waiting: u32, number: u32) {
         let kind = table::kind_of(bytes);
         self.judged[kind][number as usize] += 1;
-        if number == 0 && waiting == 0 {
+        if waiting > 0 {
+            return;
+        }
+        if number == 0 {
             self.done[kind][table::op_of(bytes)] |= 1 << table::form_of(bytes);
         }
+        self.shapes.see(bytes, number);
     }
 
     pub fn went(&mut self, way: u64) {
@@ -67,6 +74,7 @@ impl Tally {
         if [0, 2, 4].iter().any(|&bytes| self.measured[bytes] == 0) {
             gaps.push("some length never occurred".to_string());
         }
+        gaps.extend(self.shapes.gaps());
         gaps
     }
 }
@@ -74,21 +82,6 @@ impl Tally {
 /// Number 1 is not for records.
 fn possible(kind: usize, number: usize) -> bool {
     number != 1 && table::possible(kind, number)
-}
-
-/// "S may be 1 only in 01, 02, 03 and MUL"; "for the last four .. S is 1"; "Kinds 12, 13, 14 are 2
-/// machine bytes, BL is 4". Bit 0 is form 0: no S, 2 machine bytes.
-fn possible_forms(kind: usize, op: usize) -> u8 {
-    if kind == 0 || op >= usize::from(OPS[kind - 1]) {
-        return 0;
-    }
-    match (kind, op) {
-        (0x01 | 0x02, 12..=15) => 0b1010,
-        (0x01..=0x03, _) | (0x07, 0) => 0b1111,
-        (0x11, 1) => 0b0100,
-        (0x12..=0x14, _) => 0b0001,
-        _ => 0b0101,
-    }
 }
 
 impl fmt::Display for Tally {
@@ -102,7 +95,8 @@ impl fmt::Display for Tally {
         let [next, direct, taken, none] = self.ways;
         writeln!(f, "ways: {next} next, {direct} direct, {taken} taken, {none} no record")?;
         let [none, _, two, _, four] = self.measured;
-        writeln!(f, "measures: {two} of 2 bytes, {four} of 4 bytes, {none} no record")
+        writeln!(f, "measures: {two} of 2 bytes, {four} of 4 bytes, {none} no record")?;
+        write!(f, "{}", self.shapes)
     }
 }
 
