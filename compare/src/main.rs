@@ -8,6 +8,8 @@ mod counts;
 mod cover;
 mod hex;
 mod image;
+mod image_bytes;
+mod memory_length;
 mod prng;
 #[allow(unsafe_code)]
 mod proved;

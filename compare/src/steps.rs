@@ -1,6 +1,8 @@
 //! Steps at random: the number, the machine's image and every byte of memory.
 
 mod aim;
+mod ends;
+mod fixed;
 mod large;
 mod record;
 pub mod scene;
@@ -18,12 +20,15 @@ use tally::Tally;
 
 pub const SEED: u64 = 0x57E9_2026;
 const STEPS: u64 = 2_000_000;
-/// With memory at its limit, which takes long to compare.
-const LARGE: u64 = 1_000;
+/// With memory of any length, also at its limit, which takes long to compare.
+const LARGE: u64 = 4_000;
 
 pub fn run(least: u64, seed: u64) -> Result<String, String> {
     let (mut prng, stock) = (Prng::new(seed), stock());
-    let mut comparison = Comparison { sides: Sides::new("step", seed), tally: Tally::new() };
+    let tally = Tally::new(&stock);
+    let mut comparison = Comparison { sides: Sides::new("step", seed), tally };
+    fixed::images(&mut comparison)?;
+    fixed::records(&mut comparison, &stock)?;
     for _ in 0..STEPS {
         comparison.put(&question(&mut prng, &stock))?;
     }
@@ -39,15 +44,15 @@ pub fn run(least: u64, seed: u64) -> Result<String, String> {
     }
 }
 
-struct Comparison {
+pub struct Comparison {
     sides: Sides<Question>,
     tally: Tally,
 }
 
 impl Comparison {
     fn put(&mut self, question: &Question) -> Outcome {
-        let number = self.sides.put(question)?.number;
-        self.tally.step(question, number);
+        let answer = self.sides.put(question)?;
+        self.tally.step(question, answer);
         Ok(())
     }
 }

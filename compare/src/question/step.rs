@@ -13,6 +13,15 @@ pub struct Question {
     pub memory: Vec<u8>,
 }
 
+impl Question {
+    /// Whether nothing is number 1 but, perhaps, how long memory is.
+    pub fn is_fit_but_for_length(&self) -> bool {
+        let machine = second::image::decode(&self.image).filter(|_| image::is_one(&self.image));
+        machine.map_or(false, |machine| machine.good())
+            && self.base as usize + self.memory.len() <= 1 << 32
+    }
+}
+
 #[derive(Clone, PartialEq, Eq, Default)]
 pub struct Answer {
     pub number: u32,

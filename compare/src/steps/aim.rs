@@ -1,6 +1,7 @@
 //! Sets the registers that a record reads, and what it loads, so that the step comes near a limit:
 //! values that are all random would mostly miss memory, never divide by 0 and seldom saturate.
 
+use super::ends::way;
 use super::scene::{value, Scene};
 use crate::prng::Prng;
 
@@ -45,6 +46,23 @@ pub fn aim(prng: &mut Prng, record: &[u8], scene: &mut Scene) {
         [0x12, _, _, rm] if !prng.once_in(4) => scene.set(rm, scene.get(rm) | 1),
         [0x13, _, _, rn, _] if prng.once_in(2) => scene.set(rn, 0),
         _ => (),
+    }
+    if prng.once_in(8) {
+        ends(prng, record, scene);
+    }
+}
+
+/// For a branch R15 so near an end of the addresses that the next record or a direct branch's target
+/// is past it, or just not.
+fn ends(prng: &mut Prng, record: &[u8], scene: &mut Scene) {
+    let target = match *record {
+        [0x11, _, _, _, a, b, c, d] => 4 + i32::from_le_bytes([a, b, c, d]),
+        [0x13, _, _, _, offset] => 4 + i32::from(offset),
+        _ => 4,
+    };
+    let (far, near) = (prng.pick(&[0, target]), 2 * prng.below(8) as i32 - 8);
+    if way(record).is_some() {
+        scene.set(PC, near.wrapping_sub(far) as u32);
     }
 }
 

@@ -1,25 +1,26 @@
-//! Memory at its limit of 1,048,576 bytes, one below and one above it; at address 0, with its end
-//! at 2^32, and one byte past that.
+//! Memory of any length up to its limit of 1,048,576 bytes, at that, one below and one above it; at
+//! address 0, with its end at 2^32, and one byte past that.
 
 use super::scene::{fill, machine, Scene};
 use super::{aim, record, spoil};
 use crate::image::Image;
+use crate::memory_length::{any, LIMIT};
 use crate::prng::Prng;
 use crate::question::step::Question;
 use crate::stock::Stock;
 
-const LIMIT: usize = 1_048_576;
-/// Bytes that are not zero stand at both ends and around this place.
-const MIDDLE: usize = 0x8_0001;
+/// So many bytes that are not zero stand at both ends and in the middle.
 const SOME: usize = 100;
 
 pub fn question(prng: &mut Prng, stock: &Stock) -> Question {
-    let length = prng.pick(&[LIMIT - 1, LIMIT, LIMIT, LIMIT, LIMIT + 1]);
+    let other = any(prng);
+    let length = prng.pick(&[LIMIT - 1, LIMIT, LIMIT, LIMIT + 1, other, other, other, other]);
     let top = (length as u32).wrapping_neg();
     let base = prng.pick(&[0, 0x2000_0000, 0x2000_0000, 0x1FFF_FFF9, top, top, top + 1]);
     let mut memory = vec![0; length];
-    for start in [0, MIDDLE, length - SOME] {
-        fill(prng, &mut memory[start..start + SOME]);
+    for start in [0, length / 2, length.saturating_sub(SOME)] {
+        let end = length.min(start + SOME);
+        fill(prng, &mut memory[start..end]);
     }
     let mut scene = Scene { image: Image::FRESH, base, memory };
     machine(prng, &mut scene);

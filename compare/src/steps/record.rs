@@ -3,6 +3,7 @@
 use crate::prng::Prng;
 use crate::random_record;
 use crate::stock::Stock;
+use crate::table::form_place;
 
 const ADD: u8 = 0;
 const SUB: u8 = 2;
@@ -25,10 +26,25 @@ pub fn record(prng: &mut Prng, stock: &Stock) -> Vec<u8> {
     if prng.once_in(8) {
         special(prng, &mut record);
     }
+    if prng.once_in(32) {
+        nearly(prng, &mut record);
+    }
     if prng.once_in(24) {
         random_record::damage(prng, &mut record);
     }
     record
+}
+
+/// What an exception of "Restricted" nearly allows; else S turned, which few kinds allow.
+fn nearly(prng: &mut Prng, record: &mut [u8]) {
+    match record {
+        [0x01, _, _, _, rn, rm, ..] if !prng.once_in(4) => {
+            (*rn, *rm) = (13, prng.pick(&[*rm, *rm, 13, 15]));
+        }
+        [0x02, _, _, _, rn, ..] if !prng.once_in(4) => *rn = 13,
+        [0x08, _, _, low, high, ..] if !prng.once_in(4) => *high = *low,
+        _ => record[form_place(record)] ^= 1,
+    }
 }
 
 /// R13 and R15 where they are allowed, for they seldom fall there.

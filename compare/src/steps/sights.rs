@@ -1,17 +1,29 @@
 //! What must have been among the steps done, beside every kind, op and condition: what random
 //! numbers hit only when they are aimed.
 
-use crate::image;
+use crate::{image, table};
 
-/// A step done, whose condition passed.
+/// A step done.
 pub struct Look<'a> {
     pub image: &'a [u8],
     pub record: &'a [u8],
+    pub image_after: &'a [u8],
 }
 
 impl Look<'_> {
-    fn register(&self, register: u8) -> u32 {
+    pub fn register(&self, register: u8) -> u32 {
         image::register(self.image, register.into())
+    }
+
+    pub fn after(&self, register: u8) -> u32 {
+        image::register(self.image_after, register.into())
+    }
+
+    pub fn machine_bytes(&self) -> i64 {
+        match table::form_of(self.record) & 2 {
+            0 => 2,
+            _ => 4,
+        }
     }
 
     /// The amount of kind 03.
@@ -31,7 +43,16 @@ impl Look<'_> {
 
 type Sight = (&'static str, fn(&Look) -> bool);
 
-pub const SIGHTS: [Sight; 22] = [
+/// Of steps whose condition passed.
+pub const SIGHTS: [Sight; 24] = [
+    ("ORR of a register with a bit of Rn", |look| {
+        matches!(*look.record, [0x01, 6, _, _, rn, rm, 0, n]
+            if look.register(rn) & look.register(rm) << n != 0)
+    }),
+    ("ORR of a constant with a bit of Rn", |look| {
+        matches!(*look.record, [0x02, 6, _, _, rn, a, b, c, d]
+            if look.register(rn) & u32::from_le_bytes([a, b, c, d]) != 0)
+    }),
     ("ADD to R13", |look| matches!(look.record, [0x01 | 0x02, 0, _, 13, ..])),
     ("ADD to R15", |look| matches!(look.record, [0x01, 0, _, 15, ..])),
     ("MOV to R13", |look| matches!(look.record, [0x01, 10, _, 13, ..])),

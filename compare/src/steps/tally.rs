@@ -1,8 +1,13 @@
 //! How the steps ended, and whether all that paper 01 lets occur did.
 
+use super::ends::Ends;
 use super::sights::{Look, SIGHTS};
+use crate::cover::Cover;
 use crate::image::{CONDITIONS, COUNT};
-use crate::question::step::Question;
+use crate::image_bytes::ImageBytes;
+use crate::memory_length::{self, CLASSES, LIMIT};
+use crate::question::step::{Answer, Question};
+use crate::shapes::Shapes;
 use crate::table::{self, KINDS, OPS};
 use std::fmt;
 
@@ -23,24 +28,49 @@ pub struct Tally {
     /// The sizes of the lists of kind 10 done, as a bit each, by op.
     sizes: [u32; 4],
     seen: [u64; SIGHTS.len()],
+    ends: Ends,
+    shapes: Shapes,
+    images: ImageBytes,
+    /// Lengths of memory with which steps were done, and accesses passed.
+    lengths: Cover,
+    /// Steps refused for memory of one byte more than its limit.
+    over: u64,
 }
 
 impl Tally {
-    pub fn new() -> Tally {
+    pub fn new(stock: &[Vec<u8>]) -> Tally {
         let (ended, done) = ([[0; NUMBERS]; KINDS + 1], [[0; 16]; KINDS + 1]);
         let (ruled, seen) = ([[0; 2]; AL + 1], [0; SIGHTS.len()]);
-        Tally { ended, done, ruled, waited: [0; 5], sizes: [0; 4], seen }
+        let (waited, sizes, ends, shapes) = ([0; 5], [0; 4], Ends::new(), Shapes::new(stock));
+        let (images, over) = (ImageBytes::new(), 0);
+        // without a byte there is nothing to access
+        let is_case = |class: usize, accessed: usize| class > 0 || accessed == 0;
+        let lengths = Cover::new("lengths of memory by powers of 2", [CLASSES, 2], is_case);
+        Tally { ended, done, ruled, waited, sizes, seen, ends, shapes, images, lengths, over }
     }
 
-    pub fn step(&mut self, question: &Question, number: u32) {
+    pub fn step(&mut self, question: &Question, answer: &Answer) {
+        let number = answer.number;
         self.ended[table::kind_of(&question.record)][number as usize] += 1;
+        self.shapes.see(&question.record, number);
+        self.images.see(&question.image, number);
         if number == 0 {
-            self.done(&question.image, &question.record);
+            self.done(question, &answer.lent.image);
+        }
+        if number == 1 && question.memory.len() == LIMIT + 1 && question.is_fit_but_for_length() {
+            self.over += 1;
         }
     }
 
-    fn done(&mut self, image: &[u8], record: &[u8]) {
+    fn done(&mut self, question: &Question, image_after: &[u8]) {
+        let Question { image, record, .. } = question;
+        let look = Look { image, record, image_after };
         let (kind, op) = (table::kind_of(record), table::op_of(record));
+        let class = memory_length::class(question.memory.len());
+        self.ends.see(&look);
+        if let Some(class) = class {
+            self.lengths.see(class, 0);
+        }
         let passed = match ruling(image, record) {
             Some(condition) => {
                 let machine = second::image::decode(image);
@@ -55,11 +85,14 @@ impl Tally {
             return;
         }
         self.done[kind][op] += 1;
-        if let [0x10, _, _, _, _, a, b] = *record {
+        if let (0x0D..=0x10, Some(class)) = (kind, class) {
+            self.lengths.see(class, 1);
+        }
+        if let [0x10, _, _, _, _, a, b] = record[..] {
             self.sizes[op] |= 1 << u16::from_le_bytes([a, b]).count_ones();
         }
         for (seen, (_, sees)) in self.seen.iter_mut().zip(SIGHTS) {
-            *seen += u64::from(sees(&Look { image, record }));
+            *seen += u64::from(sees(&look));
         }
     }
 
@@ -92,7 +125,11 @@ impl Tally {
         for ((name, _), _) in SIGHTS.iter().zip(self.seen).filter(|&(_, seen)| seen == 0) {
             gaps.push(format!("never {name}"));
         }
-        gaps
+        if self.over == 0 {
+            gaps.push("memory was never one byte over its limit".to_string());
+        }
+        gaps.extend(self.lengths.gap());
+        [gaps, self.ends.gaps(), self.shapes.gaps(), self.images.gaps()].concat()
     }
 }
 
@@ -127,7 +164,9 @@ impl fmt::Display for Tally {
             .zip(self.seen)
             .map(|((name, _), seen)| format!("{name} {seen}"))
             .collect();
-        writeln!(f, "among them: {}", seen.join(", "))
+        writeln!(f, "among them: {}", seen.join(", "))?;
+        writeln!(f, "{}; one byte over its limit: {}", self.lengths, self.over)?;
+        write!(f, "{}{}{}", self.ends, self.shapes, self.images)
     }
 }
 
