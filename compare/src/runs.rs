@@ -1,6 +1,7 @@
 //! Runs: number, place and count, the machine's image and every byte of memory.
 
 mod demand;
+mod images;
 mod long;
 pub mod pieces;
 pub mod samples;
@@ -31,6 +32,7 @@ pub fn run(least: u64, seed: u64) -> Result<String, String> {
     let mut comparison = Comparison::new(seed);
     samples::all(&mut comparison)?;
     long::listings(&mut comparison)?;
+    images::all(&mut comparison)?;
     for _ in 0..SCENES {
         comparison.scene(&mut prng)?;
     }

@@ -36,7 +36,7 @@ pub fn image(prng: &mut Prng, image: &mut Vec<u8>) {
         1 => image.push(0),
         2 => image.truncate(prng.below(73) as usize),
         3 => image[FLAGS + prng.below(5) as usize] = prng.byte() | 2,
-        4 => image[COUNT] = prng.pick(&[5, 6, 8, 255]),
+        4 => image[COUNT] = prng.byte().max(5),
         _ => {
             image[COUNT] = image[COUNT].min(3);
             let past = usize::from(image[COUNT]) + prng.below(4 - u32::from(image[COUNT])) as usize;

@@ -3,14 +3,14 @@
 
 use super::scene::Scene;
 use crate::checks::fault;
+use crate::memory_length::{self, LIMIT};
 use crate::prng::Prng;
 use crate::question::run::{Question, ROOM};
 use crate::{random_record, unfit};
 
 const RARE: u32 = 40;
-/// Memory at its limit takes long to compare.
-const LARGE: u32 = 1_500;
-const LIMIT: usize = 1_048_576;
+/// Memory of any length, up to its limit and one past it, takes long to compare.
+const LARGE: u32 = 600;
 
 /// One listing in five gets up to two mistakes.
 pub fn listing(prng: &mut Prng, scene: &mut Scene) {
@@ -37,7 +37,8 @@ pub fn question(prng: &mut Prng, mut scene: Scene) -> Question {
     let room = if prng.once_in(RARE) { prng.pick(&[0, 4, 11, 13, 16, 24]) } else { ROOM };
     let (mut memory, mut memory_base) = (scene.memory, scene.memory_base);
     if prng.once_in(LARGE) {
-        memory.resize(prng.pick(&[LIMIT, LIMIT + 1]), 0);
+        let any = memory_length::any(prng);
+        memory.resize(prng.pick(&[LIMIT, LIMIT + 1, any, any, any]), 0);
     }
     if prng.once_in(RARE) {
         memory_base = unfit::past_the_top(prng, memory.len() as u32).unwrap_or(memory_base);

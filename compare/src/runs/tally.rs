@@ -5,6 +5,8 @@ use super::sights::SIGHTS;
 use super::start::{Start, STARTS};
 use super::trace::trace;
 use crate::counts::Counts;
+use crate::image_bytes::ImageBytes;
+use crate::memory_length::LIMIT;
 use crate::question::run::{Answer, Question, ROOM};
 use std::fmt;
 
@@ -14,27 +16,29 @@ const LEAST: u64 = 500;
 const FEW: u64 = 20;
 
 const NUMBERS: [&str; 11] = ["0", "1", "2", "3", "4", "5", "6", "7", "8", "9", "10"];
-const UNFIT: [&str; 6] = [
+const UNFIT: [&str; 7] = [
     "a machine that is not good",
     "an image that is none",
     "an answer of another length",
     "memory over its limit",
     "memory past 2^32",
     "memory at its limit",
+    "memory above 4,096 bytes and below its limit",
 ];
 /// Beside the count of steps with which the run ended that had enough.
 const BUDGETS: [&str; 7] = ["0", "1", "its count", "one less", "one more", "4294967295", "another"];
-const LIMIT: usize = 1_048_576;
+const LARGE: usize = 4_096;
 
 pub struct Tally {
     numbers: Counts<11>,
     starts: Counts<11>,
     memories: Counts<6>,
-    unfit: Counts<6>,
+    unfit: Counts<7>,
     budgets: Counts<7>,
     /// Refused steps, where an earlier step had changed memory.
     changed: Counts<3>,
     sights: Counts<{ SIGHTS.len() }>,
+    images: ImageBytes,
     steps: u64,
 }
 
@@ -48,6 +52,7 @@ impl Tally {
             budgets: Counts::new("budget", BUDGETS),
             changed: Counts::new("refused with memory changed before by", ["5", "6", "7"]),
             sights: Counts::new("among the steps", SIGHTS.map(|(name, _)| name)),
+            images: ImageBytes::new(),
             steps: 0,
         }
     }
@@ -78,6 +83,7 @@ impl Tally {
         if let Some(sort) = unfit(question) {
             self.unfit.add(sort);
         }
+        self.images.see(&question.image, answer.number);
     }
 
     pub fn steps(&mut self, question: &Question, count: u32) {
@@ -99,6 +105,7 @@ impl Tally {
             self.budgets.gaps(FEW),
             self.changed.gaps(FEW),
             self.sights.gaps(FEW),
+            self.images.gaps(),
         ];
         few.concat()
     }
@@ -113,7 +120,8 @@ fn unfit(question: &Question) -> Option<usize> {
         Some(machine) if !machine.good() => Some(0),
         _ if length > LIMIT => Some(3),
         _ if question.memory_base as usize + length > 1 << 32 => Some(4),
-        _ => (length == LIMIT).then_some(5),
+        _ if length == LIMIT => Some(5),
+        _ => (length > LARGE).then_some(6),
     }
 }
 
@@ -126,6 +134,7 @@ impl fmt::Display for Tally {
         writeln!(f, "{}", self.budgets)?;
         writeln!(f, "{}", self.changed)?;
         writeln!(f, "steps in all: {}; of one run of each scene", self.steps)?;
-        writeln!(f, "{}", self.sights)
+        writeln!(f, "{}", self.sights)?;
+        write!(f, "{}", self.images)
     }
 }
