@@ -1,6 +1,7 @@
 //! Checks of listings: the number and the place.
 
 pub mod base;
+mod ends;
 pub mod fault;
 mod fixed;
 pub mod listing;
@@ -24,7 +25,7 @@ pub fn run(least: u64, seed: u64) -> Result<String, String> {
     let mut prng = Prng::new(seed);
     fixed::empty(&mut comparison)?;
     fixed::reaches(&mut comparison)?;
-    fixed::top(&mut comparison)?;
+    fixed::ends(&mut comparison)?;
     samples::all(&mut comparison, &mut prng)?;
     long::listings(&mut comparison, &mut prng)?;
     for _ in 0..LISTINGS {
@@ -53,7 +54,7 @@ impl Comparison {
         if proved != second {
             return Err(self.differs(listing, base, [proved, second]));
         }
-        self.tally.check(listing.len(), number, place);
+        self.tally.check(listing, base, (number, place));
         Ok(number)
     }
 

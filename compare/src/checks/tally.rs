@@ -1,5 +1,6 @@
 //! How the checks ended.
 
+use super::ends::Ends;
 use std::fmt;
 
 /// What the check's table and prose tell apart.
@@ -18,14 +19,17 @@ pub struct Tally {
     counts: [u64; ENDS.len()],
     /// Numbers and places that no check gives.
     strange: Vec<String>,
+    ends: Ends,
 }
 
 impl Tally {
     pub fn new() -> Tally {
-        Tally { counts: [0; ENDS.len()], strange: Vec::new() }
+        Tally { counts: [0; ENDS.len()], strange: Vec::new(), ends: Ends::new() }
     }
 
-    pub fn check(&mut self, length: usize, number: u32, place: u32) {
+    pub fn check(&mut self, listing: &[u8], base: u32, (number, place): (u32, u32)) {
+        self.ends.see(listing, base, number, place);
+        let length = listing.len();
         let at_end = place as usize == length;
         let end = match (number, place) {
             (0, 0) => 0,
@@ -49,7 +53,7 @@ impl Tally {
     pub fn gaps(&self) -> Vec<String> {
         let never = ENDS.iter().zip(self.counts).filter(|&(_, count)| count == 0);
         let never = never.map(|(end, _)| format!("never {end}"));
-        never.chain(self.strange.iter().cloned()).collect()
+        never.chain(self.strange.iter().cloned()).chain(self.ends.gaps()).collect()
     }
 }
 
@@ -58,6 +62,6 @@ impl fmt::Display for Tally {
         for (end, count) in ENDS.iter().zip(self.counts) {
             writeln!(f, "{count:9} {end}")?;
         }
-        Ok(())
+        write!(f, "{}", self.ends)
     }
 }
