@@ -1,7 +1,7 @@
 # Read by ./book. `part` says what the file at hand is read for: the code, the definitions, the proofs, and last docs/book.order, whose
 # lines say what is written where. A byte above 127 belongs to a letter like ℕ (./book sets LC_ALL=C).
 
-BEGIN { WIDTH = 140 }
+BEGIN { WIDTH = 150 }
 
 function amiss(what) {
     print "book: " what >"/dev/stderr"
@@ -376,12 +376,13 @@ function merged(name, left, right, count,    i, k, at, size, first, second, seen
 # ---- what is written
 
 function put(text) {
+    if (left_out) return
     book = book text "\n"
     lines_put += gsub(/\n/, "\n", text) + 1
 }
 
 function gap() {
-    if (book !~ /(^|\n\n|(^|\n)#[^\n]*\n)$/) put("")
+    if (!left_out && book !~ /(^|\n\n|(^|\n)#[^\n]*\n)$/) put("")
 }
 
 # a definition under its comment, with the promises that cite it at the end of its first line or of the comment
@@ -397,7 +398,7 @@ function put_definition(id,    text, note, at, first, comment) {
         else text = text "\n" filled("    " note, ", ", "     ", WIDTH - 4)
     if (comment != "") put(comment)
     put(indented(text))
-    definitions++
+    if (!left_out) definitions++
 }
 
 # a comment that begins with a kind's number alone
@@ -505,7 +506,6 @@ END {
         print "book: " wrong " amiss" >"/dev/stderr"
         exit 1
     }
-    put_index()
     printf "%s", book
     print "book: " definitions " definitions, " lines_put " lines" >"/dev/stderr"
 }
@@ -547,6 +547,7 @@ function settle(    i, k, count, word, id, chapter, section, place) {
 
 function write(i,    count, word, k) {
     count = split(entry[i], word, " ")
+    left_out = !code && int(place_at[i]) in alone
     if (was == "-" && word[1] ~ /^[=-]$/ || was == "=" && word[1] == "=") missing(i - 1, "nothing under this heading")
     if (word[1] == ">") {
         if (was != ">") gap()
@@ -616,16 +617,12 @@ function check_all(    key, k, count, word, id) {
     }
 }
 
-# What the preface's rule says of a name with several definitions is what the sources mean by it.
-function check_names(id,    key, count, word, k, meant) {
-    key = substr(id, 1, index(id, SUBSEP) - 1)
-    count = words_in(text_of[id], word)
-    for (k = 1; k <= count; k++)
-        if (is_shared(word[k])) {
-            meant = (key, word[k]) in text_of ? key : meaning[key, word[k]]
-            if (meant != "" && meant != by_rule(word[k], place_of[id]))
-                amiss(key ": " substr(id, index(id, SUBSEP) + 1) ": its " word[k] " is " meant "'s, by the rule " by_rule(word[k], place_of[id]) "'s")
-        }
+# A name has one definition.
+function check_names(id,    name, count, home, k, times) {
+    name = substr(id, index(id, SUBSEP) + 1)
+    count = split(homes[name], home, " ")
+    for (k = 1; k <= count; k++) if ((home[k], name) in place_of) times++
+    if (times > 1) amiss(name ": " times " definitions of that name:" homes[name])
 }
 
 # Nothing outside a chapter for itself names what is in it.
@@ -639,43 +636,8 @@ function check_alone(id,    key, count, word, k, meant) {
     }
 }
 
-function is_shared(name,    count, home, k, times) {
+function first_home(name,    count, home, k) {
     count = split(homes[name], home, " ")
-    for (k = 1; k <= count; k++) if ((home[k], name) in place_of) times++
-    return times > 1
-}
-
-# the definition in the same section, else the first in the same chapter, else the first of all
-function by_rule(name, place,    count, home, k, best, mark, best_mark) {
-    count = split(homes[name], home, " ")
-    for (k = 1; k <= count; k++)
-        if ((home[k], name) in place_of) {
-            mark = place_of[home[k], name] == place ? 2 : int(place_of[home[k], name]) == int(place)
-            if (best == "" || mark > best_mark || mark == best_mark && rank_of[home[k], name] < rank_of[best, name]) {
-                best = home[k]
-                best_mark = mark
-            }
-        }
-    return best
-}
-
-function first_home(name) {
-    return by_rule(name, "")
-}
-
-# the names with several definitions, and where these are
-function put_index(    i, k, count, word, line) {
-    gap()
-    put("# Names with several definitions, and their sections")
-    for (i = 1; i <= entries; i++) {
-        count = split(entry[i], word, " ")
-        if (word[1] == "spec")
-            for (k = 3; k <= count; k++)
-                if (word[k] != "head" && is_shared(word[k])) {
-                    if (!(word[k] in shared)) shared_names[++shares] = word[k]
-                    shared[word[k]] = shared[word[k]] " " place_at[i]
-                }
-    }
-    for (i = 1; i <= shares; i++) line = line (i > 1 ? "; " : "") shared_names[i] shared[shared_names[i]]
-    put(filled(line, "; ", "", WIDTH))
+    for (k = 1; k <= count; k++) if ((home[k], name) in place_of) return home[k]
+    return ""
 }

@@ -12,7 +12,7 @@ use Rattle.record.specs.declared.Record.{Record}
 use Rattle.layout.specs.declared.Point.{Point}
 use Rattle.layout.specs.declared.AtAddress.{AtAddress}
 use Rattle.layout.specs.declared.AtAddress.the-variants.{Stands, End, Stray}
-use Rattle.layout.specs.Layout.{Met, Onward, AtEnd, Refusal, meets, at-address, held as held-there}
+use Rattle.layout.specs.Layout.{Met, Onward, AtEnd, Refusal, meets, at-address, standing}
 use Rattle.layout.proofs.Members.{On, on-found}
 use Rattle.listing.proofs.Accepted.{Accepted, not-stopped, end-waits}
 use Rattle.machine.specs.declared.Machine.{Machine}
@@ -64,8 +64,8 @@ module _ (h : Rehearsal) (m : Machine) where
 
 -- ---- at a point of an accepted listing, with its conditions waiting, a machine doesn't stray
 not-stray : (listing : List ℕ) (base : ℕ) → Accepted listing base → (p : Point) → On listing base p
-    → (t : Met) → meets listing p ≡ t → agreeing (held-there t p) (p .waiting) ≡ Stray → ⊥
-unfolding agreeing held-there
+    → (t : Met) → meets listing p ≡ t → agreeing (standing t p) (p .waiting) ≡ Stray → ⊥
+unfolding agreeing standing
 not-stray listing base ok p o (Onward r q) e f =
     let g = rw (same-self (p .waiting)) at f in let z : _≡_ {A = ℕ} 0 1 = cc in omega arith
 not-stray listing base ok p o AtEnd e f =

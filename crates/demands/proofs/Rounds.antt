@@ -10,7 +10,7 @@ use Rattle.record.specs.declared.Record.{Record}
 use Rattle.layout.specs.declared.Point.{Point}
 use Rattle.layout.specs.declared.AtAddress.{AtAddress}
 use Rattle.layout.specs.declared.AtAddress.the-variants.{Stands, End, Stray}
-use Rattle.run.specs.Run.{Rehearsal, State, state, Passage, Course, Over, Done, faced, attempted, round-at, round, over, led-by, followed, used-up, rounds}
+use Rattle.run.specs.Run.{Rehearsal, State, state, Passage, Course, Over, Done, faced, attempted, round-at, round, over, led-by, continued, used-up, rounds}
 use Rattle.run.proofs.Rounds.{step-there}
 
 module _ (h : Rehearsal) where
@@ -47,12 +47,12 @@ module _ (h : Rehearsal) where
     where
       made : ((n : State) → P left n (rounds left h n)) → (r : Record) (p : Point) → faced h (s .machine) ≡ Stands r p
           → (t : Bool) → eqb (tried s p .answer .number) 0 ≡ t
-          → P (suc left) s (followed (if t then Done r p (next-state s p) else Over (tried s p .answer .number) (p .place .0)) s (rounds left h))
+          → P (suc left) s (continued (if t then Done r p (next-state s p) else Over (tried s p .answer .number) (p .place .0)) s (rounds left h))
       made rest r p e true t = by .stepped left s r p e (eqb-true (tried s p .answer .number) 0 t) (rest (next-state s p))
       made rest r p e false t = by .stopped left s r p e (eqb-false (tried s p .answer .number) 0 t)
 
       go : ((n : State) → P left n (rounds left h n)) → (t : AtAddress) → faced h (s .machine) ≡ t
-          → P (suc left) s (followed (round-at t h s) s (rounds left h))
+          → P (suc left) s (continued (round-at t h s) s (rounds left h))
       go rest (Stands r p) e = made rest r p e (eqb (tried s p .answer .number) 0) refl
       go rest End e = by .reached (suc left) s e
       go rest Stray e = by .strayed (suc left) s e

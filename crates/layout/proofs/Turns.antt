@@ -17,7 +17,7 @@ use Rattle.layout.specs.declared.Seen.the-variants.{Goes, Ends, Stops}
 use Rattle.layout.specs.declared.Sought.{Sought}
 use Rattle.layout.specs.declared.Sought.the-variants.{At, Nowhere}
 use Rattle.layout.specs.Layout.{Met, Onward, AtEnd, Refusal, meets, followed, walk, sought}
-use Rattle.layout.specs.Seen.{in-64-bits, seen}
+use Rattle.layout.specs.Code.{in-64-bits, seen}
 use Rattle.layout.proofs.Points.{next-address, rises, walk-from, walk-on, walk-end, walk-refused, walk-none}
 
 kept-whole : (p : Point) → p .address .0 < 2 ^ 64 → in-64-bits p ≡ p

@@ -2,7 +2,7 @@
 
 ghost use mathlib.Core.Path.{_≡_};
 ghost use Rattle.layout.specs.Layout.{start, next, judged-at, meets, layout, sought, standing, standing-at, at-address};
-ghost use Rattle.layout.specs.Seen.{in-64-bits, seen};
+ghost use Rattle.layout.specs.Code.{in-64-bits, seen};
 ghost use Rattle.reading.specs.declared.ReadAt.the-variants.{Found};
 use flow::Way;
 use reading::Place;

@@ -15,7 +15,7 @@ use Rattle.layout.proofs.Turns.{Passed}
 use Rattle.listing.specs.declared.landing.Placed.{Placed}
 use Rattle.listing.specs.declared.landing.Placed.the-variants.{At}
 use Rattle.listing.specs.Check.{lands-at, lands, landing, astray, branch-fault}
-use Rattle.listing.specs.Table.{Table, looked-up, there, is-listed, landing-place, Tells}
+use Rattle.listing.specs.Code.{Table, looked-up, there, is-listed, landing-place, Tells}
 
 pub target-mod : (address : ℕ) (w : Way) → target (address % 2 ^ 32) w ≡ target address w
 unfolding target

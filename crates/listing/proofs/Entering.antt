@@ -13,7 +13,7 @@ use Rattle.layout.specs.declared.Point.{Point}
 use Rattle.listing.specs.declared.landing.Placed.{Placed}
 use Rattle.listing.specs.declared.landing.Placed.the-variants.{At, Nowhere}
 use Rattle.listing.specs.Check.{free, lands-at}
-use Rattle.listing.specs.Table.{Table, table, Room, entered, or-else, among, looked-up, Below, Rising}
+use Rattle.listing.specs.Code.{Table, table, Room, entered, or-else, among, looked-up, Below, Rising}
 
 pub or-nowhere : (x : Placed) → or-else x Nowhere ≡ x
 or-nowhere (At place) = refl

@@ -7,7 +7,7 @@ use borrow.Author.Tests.{eq-eqb, ne-eqb}
 use lib.ListN.{getD}
 use Rattle.word.proofs.Cases.{cases, le-or-gt}
 use Rattle.listing.specs.declared.landing.Placed.the-variants.{At, Nowhere}
-use Rattle.listing.specs.Table.{Table, among, looked-up, Rising, Parted}
+use Rattle.listing.specs.Code.{Table, among, looked-up, Rising, Parted}
 
 -- ---- one half more is known
 pub parted-start : (addresses : List ℕ) (count address : ℕ) → Parted addresses count address 0 count

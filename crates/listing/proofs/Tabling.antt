@@ -16,7 +16,7 @@ use Rattle.layout.proofs.Members.{On, start-on, on-within, next-on}
 use Rattle.listing.specs.declared.landing.Placed.{Placed}
 use Rattle.listing.specs.declared.landing.Placed.the-variants.{At, Nowhere}
 use Rattle.listing.specs.Check.{lands-at, first-pass}
-use Rattle.listing.specs.Table.{Table, table, Room, entered, or-else, among, looked-up, Below, Rising, landing-place, Tells}
+use Rattle.listing.specs.Code.{Table, table, Room, entered, or-else, among, looked-up, Below, Rising, landing-place, Tells}
 use Rattle.listing.proofs.Accepted.{sound-low}
 use Rattle.listing.proofs.Entering.{or-nowhere, One-more, one-more}
 

@@ -4,7 +4,7 @@ ghost use mathlib.Core.Path.{_≡_};
 ghost use Prim.Native.Nat.{_≤_};
 ghost use lib.ListN.{length};
 ghost use Rattle.listing.specs.Check.{astray, first-pass, second-pass};
-ghost use Rattle.listing.specs.Table.{table, is-listed, Sorted, Tells};
+ghost use Rattle.listing.specs.Code.{table, is-listed, Sorted, Tells};
 use crate::Checked;
 use crate::landing::Placed;
 use flow::Way;

@@ -4,7 +4,7 @@ ghost use mathlib.Core.Path.{_≡_};
 ghost use Prim.Native.Nat.{_≤_};
 ghost use lib.ListN.{length};
 ghost use Rattle.listing.specs.Check.{free, first-pass};
-ghost use Rattle.listing.specs.Table.{table, Room, entered, looked-up, Rising, Sorted, Parted, Tells};
+ghost use Rattle.listing.specs.Code.{table, Room, entered, looked-up, Rising, Sorted, Parted, Tells};
 use layout::Point;
 use layout::Seen;
 use reading::Place;

@@ -29,8 +29,8 @@ use Rattle.machine.specs.Branch.{linking, direct-target, branch-effect, registe
 use Rattle.machine.specs.Compute.{flagged, resulting, data-done, shifted-register-effect, constant-effect, register-amount, register-shift-effect, add-number-effect, move-number-effect, unary-effect, multiply-effect, long-multiply-effect, divide-effect, saturate-effect, bit-field-effect, extend-effect}
 use Rattle.machine.specs.Machine.{fresh, held, operand-value, base-value, kept, written, with-flags, with-waiting, good, ruling, condition-passes, advanced, skipped, onward, refused, done, steady, settled, landed}
 use Rattle.machine.specs.Step.{effect, obeyed, considered, stepped}
-use Rattle.paper.specs.Paper.{Worked, table}
+use Rattle.paper.specs.Paper.{Worked, paper-table}
 
-pub worked : Worked table
+pub worked : Worked paper-table
 unfolding signed-in wrapped AddWithCarry SubtractWithCarry LSL LSR ASR rotated ROR RRX shifted-byte repeated-byte constant constant-carry UBFX SBFX BFI CLZ REV REV16 REVSH RBIT MUL MLA MLS UMULL UMLAL SMULL SMLAL UDIV SDIV SSAT USAT cleared linked moved members-below little waiting-count dropped inverse block same good-waiting well-formed allowed traits machine-length way target leaves misplaced opened after own-condition listing-length names form shifted-register-from constant-from register-shift-from add-number-from move-number-from unary-from multiply-from long-multiply-from divide-from saturate-from bit-field-from extend-from access-from indexed-access-from dual-access-from multiple-access-from branch-from register-branch-from compare-branch-from if-then-from record-of coded named read-one found-at read-at refusal judged passes signs all-four saturating fits inside byte-at loaded put-byte stored shifter constant-operand operated added placed-number unary-result multiplied multiplied-long divided saturation saturated fielded extended width load-value after-store reached multiple alignment access-refusal list-size lowest-address new-base list-stored storing landed based arriving access-made access-done access-effect indexed-access-effect dual-made dual-access-effect list-loaded list-arriving multiple-made multiple-access-effect linking direct-target branch-effect register-branch-effect branches compare-branch-effect flagged resulting data-done shifted-register-effect constant-effect register-amount register-shift-effect add-number-effect move-number-effect unary-effect multiply-effect long-multiply-effect divide-effect saturate-effect bit-field-effect extend-effect fresh held operand-value base-value kept written with-flags with-waiting good ruling condition-passes advanced skipped onward refused done steady settled effect obeyed considered stepped
 worked = (refl, (refl, (refl, (refl, (refl, (refl, (refl, (refl, (refl, (refl, (refl, tt)))))))))))

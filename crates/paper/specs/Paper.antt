@@ -116,8 +116,8 @@ P10 = record {
   after = machine 0x2001 0 0 0x1003 0x2000 clear;
 }
 
-abbrev pub table : List Row
-table = P1 ∷ P2 ∷ P3 ∷ P4 ∷ P5 ∷ P6 ∷ P7 ∷ P8 ∷ P9 ∷ P9-zero ∷ P10 ∷ []
+abbrev pub paper-table : List Row
+paper-table = P1 ∷ P2 ∷ P3 ∷ P4 ∷ P5 ∷ P6 ∷ P7 ∷ P8 ∷ P9 ∷ P9-zero ∷ P10 ∷ []
 
 -- the step is done, and gives the machine after it; memory is empty
 abbrev pub Gives : Row → Type 0

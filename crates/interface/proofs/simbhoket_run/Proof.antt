@@ -9,11 +9,12 @@ returns : tie.Need-returns
 unfolding image-run run-leaving
 returns c =
     let g = c .before .before .before .before .before .before .before .before .before .before .before in
-    let i = g .before .before .before .before .before in
+    let i = g .before .before .before .before .before .before in
     rw (
       ← i .is-image-of .ensures,
-      g .before .before .before .before .if1 .taken,
-      ← g .before .before .read .ensures,
+      g .before .before .before .before .before .if1 .taken,
+      ← g .before .before .before .read .ensures,
+      ← g .before .new .ensures,
       ← g .run .ensures,
       c .before .before .tell .ensures,
       c .before .before .before .before .before .before .write .ensures,
@@ -27,6 +28,7 @@ pub simbhoket-run-spec : {M : Type 1} → statement M
 simbhoket-run-spec =
     tie.close
     (tie.spec
+    (λ c κs. search needs)
     (λ c κs. search needs)
     (λ c κs. search needs)
     (λ c κs. search needs)

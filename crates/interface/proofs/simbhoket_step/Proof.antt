@@ -7,9 +7,10 @@ returns : tie.Need-returns
 unfolding image-stepped leaving
 returns c =
     rw (
-      ← c .before .before .before .before .before .before .before .before .before .before .before .is-image-of .ensures,
-      c .before .before .before .before .before .before .before .before .before .before .if1 .taken,
-      ← c .before .before .before .before .before .before .before .before .read .ensures,
+      ← c .before .before .before .before .before .before .before .before .before .before .before .before .is-image-of .ensures,
+      c .before .before .before .before .before .before .before .before .before .before .before .if1 .taken,
+      ← c .before .before .before .before .before .before .before .before .before .read .ensures,
+      ← c .before .before .before .before .before .before .before .new .ensures,
       ← c .before .before .before .before .before .before .step .ensures,
       ← c .before .before .write-if .ensures,
     )
@@ -19,4 +20,4 @@ unfolding image-stepped
 returns-2 c = rw (← c .before .is-image-of .ensures, c .if1 .left)
 
 pub simbhoket-step-spec : {M : Type 1} → statement M
-simbhoket-step-spec = tie.close (tie.spec (λ c κs. search needs) (λ c κs. search needs) (λ c κs. search needs) (λ c κs. search needs) (λ c. search needs) (λ c. search needs) returns (λ c. search needs) returns-2)
+simbhoket-step-spec = tie.close (tie.spec (λ c κs. search needs) (λ c κs. search needs) (λ c κs. search needs) (λ c κs. search needs) (λ c κs. search needs) (λ c. search needs) (λ c. search needs) returns (λ c. search needs) returns-2)

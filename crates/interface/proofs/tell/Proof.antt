@@ -35,13 +35,15 @@ returns c =
       c .before .before .store-word3 .ensures,
       second .store-word2 .ensures,
       first .store-word .ensures,
-      stored-low _ _ 4 (first .before .before .before .args .place),
+      first .before .before .new .ensures,
+      stored-low _ _ 4 (first .before .before .before .before .args .place),
     )
 
 pub tell-spec : {M : Type 1} → statement M
 tell-spec =
     tie.close
     (tie.spec
+    (λ c κs. search needs)
     (λ c κs. search needs)
     (λ c. search needs)
     (λ c κs. search needs)

@@ -1,5 +1,5 @@
 use Rattle.layout.specs.Layout.{next}
-use Rattle.layout.specs.Seen.{in-64-bits}
+use Rattle.layout.specs.Code.{in-64-bits}
 use borrow.Author.Needs.{needs}
 use Rattle.layout.proofs.next_of.Statement.{statement}
 use Rattle.layout.proofs.next_of.Tie as tie

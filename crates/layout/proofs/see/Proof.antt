@@ -1,4 +1,4 @@
-use Rattle.layout.specs.Seen.{seen}
+use Rattle.layout.specs.Code.{seen}
 use Rattle.layout.specs.Layout.{meets, judged-at}
 use borrow.Author.Needs.{needs}
 use Rattle.layout.proofs.see.Statement.{statement}

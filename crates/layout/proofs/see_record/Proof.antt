@@ -1,5 +1,5 @@
 use Rattle.layout.specs.Layout.{judged-at}
-use Rattle.layout.specs.Seen.{seen}
+use Rattle.layout.specs.Code.{seen}
 use borrow.Author.Needs.{needs}
 use Rattle.layout.proofs.see_record.Statement.{statement}
 use Rattle.layout.proofs.see_record.Tie as tie

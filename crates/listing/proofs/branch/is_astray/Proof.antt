@@ -1,7 +1,7 @@
 use mathlib.Core.Path.{_≡_}
 use mathlib.Core.Bool.{not}
 use borrow.Author.Needs.{needs}
-use Rattle.listing.specs.Table.{table, there, is-listed}
+use Rattle.listing.specs.Code.{table, there, is-listed}
 use Rattle.listing.specs.Check.{astray}
 use Rattle.listing.proofs.Branches.{astray-by}
 use Rattle.listing.proofs.branch.is_astray.Statement.{statement}

@@ -1,6 +1,6 @@
 use mathlib.Core.Path.{sym, _∙_}
 use borrow.Author.Needs.{needs}
-use Rattle.listing.specs.Table.{entered}
+use Rattle.listing.specs.Code.{entered}
 use Rattle.listing.proofs.landing.enter.Statement.{statement}
 use Rattle.listing.proofs.landing.enter.Tie as tie
 

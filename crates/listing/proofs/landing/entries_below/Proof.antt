@@ -2,7 +2,7 @@ use Prim.Native.Nat.{_-_}
 use mathlib.Core.Path.{_≡_}
 use native.Mathlib.Omega.{arith}
 use borrow.Author.Needs.{needs}
-use Rattle.listing.specs.Table.{Parted}
+use Rattle.listing.specs.Code.{Parted}
 use Rattle.listing.proofs.Halves.{parted-start, parted-up, parted-down}
 use Rattle.listing.proofs.landing.entries_below.Statement.{statement}
 use Rattle.listing.proofs.landing.entries_below.Tie as tie

@@ -4,7 +4,7 @@ use native.Mathlib.Omega.{arith}
 use borrow.Author.Needs.{needs}
 use Rattle.layout.specs.Layout.{walk}
 use Rattle.layout.proofs.Turns.{passed, ends-last, stops-last}
-use Rattle.listing.specs.Table.{table, Tells}
+use Rattle.listing.specs.Code.{table, Tells}
 use Rattle.listing.proofs.Accepted.{sound-low}
 use Rattle.listing.proofs.Tabling.{Listed, listed-start, listed-room, listed-on, listed-last, listed-none}
 use Rattle.listing.proofs.landing.list_all.Statement.{statement}

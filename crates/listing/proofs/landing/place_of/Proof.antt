@@ -3,7 +3,7 @@ use native.Mathlib.Omega.{arith}
 use borrow.Author.Tests.{eqb-true, eqb-false}
 use borrow.Author.Needs.{needs}
 use lib.ListN.{getD}
-use Rattle.listing.specs.Table.{table}
+use Rattle.listing.specs.Code.{table}
 use Rattle.listing.proofs.Halves.{found-there, found-nowhere}
 use Rattle.listing.proofs.landing.place_of.Statement.{statement}
 use Rattle.listing.proofs.landing.place_of.Tie as tie
