@@ -206,6 +206,13 @@ pub fn waiting_after(r: Record, w: Waiting) -> Waiting
     ensures { λ t. ⌜ t ≡ after r w ⌝ }
 {
     let opens = traits_of(r).opens;
+    opened_of(opens, w)
+}
+
+// What waits after a record that opens this.
+pub fn opened_of(opens: Opens, w: Waiting) -> Waiting
+    ensures { λ t. ⌜ t ≡ opened opens w ⌝ }
+{
     match opens {
         Opens::Nothing => w.drop_first(),
         Opens::Block(condition, count, elses) => Waiting::block_of(condition, count, elses),

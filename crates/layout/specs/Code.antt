@@ -1,6 +1,8 @@
 -- What a pass over a listing takes from a point, for the code: where the record goes, and the next point, its address kept in 64 bits.
-use Prim.Native.Nat.{_%_, _^_}
-use Rattle.flow.specs.Flow.{way}
+use Prim.Native.Nat.{_+_, _%_, _^_}
+use Rattle.flow.specs.Flow.{way, opened}
+use Rattle.flow.specs.declared.Traits.{Traits}
+use Rattle.reading.specs.declared.Place.{Place}
 use Rattle.layout.specs.declared.Point.{Point}
 use Rattle.layout.specs.declared.Seen.{Seen}
 use Rattle.layout.specs.declared.Seen.the-variants.{Goes, Ends, Stops}
@@ -8,6 +10,14 @@ use Rattle.layout.specs.Layout.{Met, Onward, AtEnd, Refusal}
 
 unfoldable pub in-64-bits : Point → Point
 in-64-bits p = record { place = p .place; address = record { 0 = p .address .0 % 2 ^ 64 }; waiting = p .waiting }
+
+-- the point after a record of these traits
+unfoldable pub passed : Traits → Place → Point → Point
+passed t place p = record {
+  place = place;
+  address = record { 0 = p .address .0 + t .length };
+  waiting = opened (t .opens) (p .waiting);
+}
 
 unfoldable pub seen : Met → Seen
 seen (Onward r q) = Goes (way r) (in-64-bits q)

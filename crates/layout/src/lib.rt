@@ -1,9 +1,10 @@
 // The layout of a listing: the walk along its records, and the search for an address.
 
 ghost use mathlib.Core.Path.{_≡_};
-ghost use Rattle.layout.specs.Layout.{start, next, judged-at, meets, layout, sought, standing, standing-at, at-address};
-ghost use Rattle.layout.specs.Code.{in-64-bits, seen};
+ghost use Rattle.layout.specs.Layout.{start, judged-at, meets, layout, sought, standing, standing-at, at-address};
+ghost use Rattle.layout.specs.Code.{in-64-bits, passed, seen};
 ghost use Rattle.reading.specs.declared.ReadAt.the-variants.{Found};
+use flow::Traits;
 use flow::Way;
 use reading::Place;
 use reading::ReadAt;
@@ -72,21 +73,21 @@ fn see_record(r: Record, place: Place, point: Point) -> Seen
     let number = judge::refusal_of(r, point.waiting.count());
     let stands = number == 0;
     if stands {
-        return Seen::Goes(flow::way_of(r), next_of(r, place, point));
+        let t = flow::traits_of(r);
+        let way = t.way;
+        return Seen::Goes(way, next_of(t, place, point));
     }
     Seen::Stops(number)
 }
 
-fn next_of(r: Record, place: Place, point: Point) -> Point
-    ensures { λ q. ⌜ q ≡ in-64-bits (next r place point) ⌝ }
+fn next_of(t: Traits, place: Place, point: Point) -> Point
+    ensures { λ q. ⌜ q ≡ in-64-bits (passed t place point) ⌝ }
 {
+    let opens = t.opens;
     Point {
         place: place,
-        address: Address(std::num::wrapping_add_u64(
-            point.address.0,
-            flow::machine_length_of(r) as u64,
-        )),
-        waiting: flow::waiting_after(r, point.waiting),
+        address: Address(std::num::wrapping_add_u64(point.address.0, t.length as u64)),
+        waiting: flow::opened_of(opens, point.waiting),
     }
 }
 

@@ -66,23 +66,23 @@ unfoldable pub good : Machine → Bool
 good m = eqb (held m PC % 2) 0 && eqb (held m SP % 4) 0 && good-waiting (m .waiting)
 
 -- "If a condition is waiting, the first one rules; kind 11 outside a block uses its own."
-unfoldable pub ruling : Waiting → Record → ℕ
-ruling waiting r = if eqb (waiting .first) none then own-condition r else waiting .first
+unfoldable pub ruling : Waiting → ℕ → ℕ
+ruling waiting own = if eqb (waiting .first) none then own else waiting .first
 
 unfoldable pub condition-passes : Machine → Record → Bool
-condition-passes m r = passes (m .flags) (ruling (m .waiting) r)
+condition-passes m r = passes (m .flags) (ruling (m .waiting) (own-condition r))
 
 -- at the next record
-unfoldable pub advanced : Machine → Record → Machine
-advanced m r = written m PC ((held m PC + machine-length r) % 2 ^ 32)
+unfoldable pub advanced : Machine → ℕ → Machine
+advanced m length = written m PC ((held m PC + length) % 2 ^ 32)
 
 -- "A failed condition changes only R15 (next record). Either way the waiting condition is dropped"
 unfoldable pub skipped : Machine → Record → Machine
-skipped m r = with-waiting (advanced m r) (dropped (m .waiting))
+skipped m r = with-waiting (advanced m (machine-length r)) (dropped (m .waiting))
 
 -- at the next record, "IT sets the list"
 unfoldable pub onward : Machine → Record → Machine
-onward m r = with-waiting (advanced m r) (after r (m .waiting))
+onward m r = with-waiting (advanced m (machine-length r)) (after r (m .waiting))
 
 -- a refused step hands back the machine as given
 unfoldable pub refused : ℕ → Machine → Stepped

@@ -7,6 +7,7 @@ pub mod compute;
 ghost use mathlib.Core.Path.{_≡_};
 ghost use Rattle.reading.specs.declared.Read.the-variants.{Is};
 ghost use Rattle.machine.specs.Machine.{fresh, held, operand-value, base-value, kept, written, with-flags, with-waiting, good, ruling, condition-passes, advanced, skipped, onward, refused, done, steady, settled, keeping};
+ghost use Rattle.flags.specs.Flags.{passes};
 ghost use Rattle.machine.specs.Step.{effect, obeyed, considered, stepped};
 use flags::Flags;
 use reading::Read;
@@ -109,18 +110,22 @@ impl Machine {
     pub fn passes(self, r: Record) -> bool
         ensures { λ t. ⌜ t ≡ condition-passes self r ⌝ }
     {
-        let flags = self.flags;
-        flags.pass(ruling_of(self.waiting, r))
+        self.passes_by(flow::own_condition_of(r))
     }
 
-    // The machine at the next record.
-    fn advance(self, r: Record) -> Self
-        ensures { λ t. ⌜ t ≡ advanced self r ⌝ }
+    // The same, of a record's own condition.
+    fn passes_by(self, own: u8) -> bool
+        ensures { λ t. ⌜ t ≡ passes (self .flags) (ruling (self .waiting) own) ⌝ }
     {
-        let next = std::num::wrapping_add_u32(
-            self.register(Machine::PC),
-            flow::machine_length_of(r),
-        );
+        let flags = self.flags;
+        flags.pass(ruling_of(self.waiting, own))
+    }
+
+    // The machine so many machine bytes on, at the next record.
+    fn advance(self, length: u32) -> Self
+        ensures { λ t. ⌜ t ≡ advanced self length ⌝ }
+    {
+        let next = std::num::wrapping_add_u32(self.register(Machine::PC), length);
         self.write(Machine::PC, next)
     }
 
@@ -154,11 +159,13 @@ impl Machine {
     pub fn obey(self, r: Record, memory: &mut [u8], setup: Setup) -> Stepped
         ensures { λ t. ⌜ keeping t (now (memory .exit)) ≡ obeyed self r (now (memory .entry)) setup ⌝ }
     {
-        let ahead = self.advance(r);
-        let passed = self.passes(r);
+        let t = flow::traits_of(r);
+        let opens = t.opens;
+        let ahead = self.advance(t.length);
+        let passed = self.passes_by(t.own);
         let waiting = self.waiting;
         if passed {
-            let next = ahead.with_waiting(flow::waiting_after(r, waiting));
+            let next = ahead.with_waiting(flow::opened_of(opens, waiting));
             return take_effect(self, next, r, memory, setup);
         }
         finish(ahead.with_waiting(waiting.drop_first()))
@@ -175,12 +182,12 @@ fn kept_of(number: u8, value: u32) -> u32
     value
 }
 
-fn ruling_of(waiting: Waiting, r: Record) -> u8
-    ensures { λ t. ⌜ t ≡ ruling waiting r ⌝ }
+fn ruling_of(waiting: Waiting, own: u8) -> u8
+    ensures { λ t. ⌜ t ≡ ruling waiting own ⌝ }
 {
     let free = waiting.first == Waiting::NONE;
     if free {
-        return flow::own_condition_of(r);
+        return own;
     }
     waiting.first
 }

@@ -1,14 +1,15 @@
-use Rattle.layout.specs.Layout.{judged-at}
-use Rattle.layout.specs.Code.{seen}
+use Rattle.flow.specs.Flow.{machine-length, way, after}
+use Rattle.layout.specs.Layout.{next, judged-at}
+use Rattle.layout.specs.Code.{passed, seen}
 use borrow.Author.Needs.{needs}
 use Rattle.layout.proofs.see_record.Statement.{statement}
 use Rattle.layout.proofs.see_record.Tie as tie
 
 returns : tie.Need-returns
-unfolding seen judged-at
+unfolding seen judged-at next passed machine-length way after
 returns c =
     let n = c .before .before .before in
-    rw (← n .before .count .ensures, ← n .refusal-of .ensures, c .before .before .if1 .taken, c .before .way-of .ensures, c .next-of .ensures)
+    rw (← n .before .count .ensures, ← n .refusal-of .ensures, c .before .before .if1 .taken, c .next-of .ensures, c .before .traits-of .ensures)
 
 returns-2 : tie.Need-returns-2
 unfolding seen judged-at

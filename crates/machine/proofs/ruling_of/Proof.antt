@@ -6,7 +6,7 @@ use Rattle.machine.proofs.ruling_of.Tie as tie
 returns : tie.Need-returns
 unfolding ruling
 returns c =
-    rw (c .before .if1 .taken, ← c .own-condition-of .ensures)
+    rw (c .if1 .taken)
 
 returns-2 : tie.Need-returns-2
 unfolding ruling
@@ -14,4 +14,4 @@ returns-2 c =
     rw (c .if1 .left)
 
 pub ruling-of-spec : {M : Type 1} → statement M
-ruling-of-spec = tie.close (tie.spec (λ c κs. search needs) returns returns-2)
+ruling-of-spec = tie.close (tie.spec returns returns-2)

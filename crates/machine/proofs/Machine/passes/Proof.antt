@@ -6,7 +6,7 @@ use Rattle.machine.proofs.Machine.passes.Tie as tie
 returns : tie.Need-returns
 unfolding condition-passes
 returns c =
-    simp (c .pass .ensures, c .before .ruling-of .ensures)
+    simp (c .passes-by .ensures, c .before .own-condition-of .ensures)
 
 pub passes-spec : {M : Type 1} → statement M
 passes-spec = tie.close (tie.spec (λ c κs. search needs) (λ c κs. search needs) returns)
