@@ -12,7 +12,7 @@ returns c =
       ← c .before .before .before .before .before .before .before .before .before .read .ensures,
       ← c .before .before .before .before .before .before .before .new .ensures,
       ← c .before .before .before .before .before .before .step .ensures,
-      ← c .before .before .write-if .ensures,
+      c .before .before .write-if .ensures,
     )
 
 returns-2 : tie.Need-returns-2

@@ -10,7 +10,7 @@ returns c =
       ← c .before .before .before .before .before .before .count .ensures,
       ← c .before .before .before .before .before .refusal-of .ensures,
       c .before .before .before .before .if1 .taken,
-      ← c .before .before .obey .ensures,
+      c .before .before .obey .ensures,
     )
 
 returns-2 : tie.Need-returns-2
@@ -20,7 +20,7 @@ returns-2 c =
       ← c .before .before .before .count .ensures,
       ← c .before .before .refusal-of .ensures,
       c .before .if1 .left,
-      ← c .refuse .ensures,
+      c .refuse .ensures,
     )
 
 pub consider-spec : {M : Type 1} → statement M

@@ -10,12 +10,12 @@ unfolding obeyed condition-passes onward skipped machine-length after own-condit
 returns c =
     rw (
       ← c .before .before .before .before .before .before .before .before .before .before .traits-of .ensures,
-      ← c .before .before .before .before .before .before .before .before .before .advance .ensures,
+      c .before .before .take-effect .ensures,
+      c .before .before .before .before .with-waiting .ensures,
+      c .before .before .before .before .before .opened-of .ensures,
+      c .before .before .before .before .before .before .before .before .before .advance .ensures,
       ← c .before .before .before .before .before .before .before .before .passes-by .ensures,
       c .before .before .before .before .before .before .if1 .taken,
-      ← c .before .before .before .before .before .opened-of .ensures,
-      ← c .before .before .before .before .with-waiting .ensures,
-      ← c .before .before .take-effect .ensures,
     )
 
 returns-2 : tie.Need-returns-2
@@ -23,12 +23,12 @@ unfolding obeyed condition-passes onward skipped machine-length after own-condit
 returns-2 c =
     rw (
       ← c .before .before .before .before .before .before .before .traits-of .ensures,
-      ← c .before .before .before .before .before .before .advance .ensures,
+      c .finish .ensures,
+      c .before .with-waiting2 .ensures,
+      c .before .before .drop-first .ensures,
+      c .before .before .before .before .before .before .advance .ensures,
       ← c .before .before .before .before .before .passes-by .ensures,
       c .before .before .before .if1 .left,
-      ← c .before .before .drop-first .ensures,
-      ← c .before .with-waiting2 .ensures,
-      ← c .finish .ensures,
     )
 
 pub obey-spec : {M : Type 1} → statement M

@@ -12,7 +12,7 @@ returns c =
       c .before .before .before .before .if1 .taken,
       ← c .before .before .before .read-all .ensures,
       c .before .enum-told .given .1,
-      ← c .refuse .ensures,
+      c .refuse .ensures,
     )
 
 returns-2 : tie.Need-returns-2
@@ -24,7 +24,7 @@ returns-2 c =
       c .before .before .before .before .before .before .before .before .if1 .taken,
       ← c .before .before .before .before .before .before .before .read-all .ensures,
       c .before .before .before .before .before .found .given .1,
-      ← c .before .before .consider .ensures,
+      c .before .before .consider .ensures,
     )
 
 returns-3 : tie.Need-returns-3
@@ -34,7 +34,7 @@ returns-3 c =
       ← c .before .before .before .before .is-good .ensures,
       ← c .before .before .is-fit .ensures,
       c .before .if1 .left,
-      ← c .refuse2 .ensures,
+      c .refuse2 .ensures,
     )
 
 pub step-spec : {M : Type 1} → statement M

@@ -7,14 +7,14 @@ returns : tie.Need-returns
 unfolding multiple-access-effect
 returns c =
     rw (
+      c .before .before .make-many .ensures,
+      c .before .before .before .before .write-list-base .ensures,
+      c .before .before .before .before .before .new-base-of .ensures,
       ← c .before .before .before .before .before .before .before .before .before .before .before .register .ensures,
       ← c .before .before .before .before .before .before .before .before .before .before .list-size-of .ensures,
       ← c .before .before .before .before .before .before .before .before .before .lowest-address-of .ensures,
       ← c .before .before .before .before .before .before .before .refusal-of .ensures,
       c .before .before .before .before .before .before .if1 .taken,
-      ← c .before .before .before .before .before .new-base-of .ensures,
-      ← c .before .before .before .before .write-list-base .ensures,
-      ← c .before .before .make-many .ensures,
     )
 
 returns-2 : tie.Need-returns-2
@@ -26,7 +26,7 @@ returns-2 c =
       ← c .before .before .before .before .lowest-address-of .ensures,
       ← c .before .before .refusal-of .ensures,
       c .before .if1 .left,
-      ← c .refuse .ensures,
+      c .refuse .ensures,
     )
 
 pub access-many-spec : {M : Type 1} → statement M

@@ -16,7 +16,7 @@ returns c =
       ← c .before .before .before .before .before .before .refusal-of .ensures,
       c .before .before .before .before .before .if1 .taken,
       ← c .before .before .before .before .write-back .ensures,
-      ← c .before .before .make-two .ensures,
+      c .before .before .make-two .ensures,
     )
 
 returns-2 : tie.Need-returns-2
@@ -29,7 +29,7 @@ returns-2 c =
       ← c .before .before .before .before .reached-of .ensures,
       ← c .before .before .refusal-of .ensures,
       c .before .if1 .left,
-      ← c .refuse .ensures,
+      c .refuse .ensures,
     )
 
 pub access-two-spec : {M : Type 1} → statement M

@@ -12,7 +12,7 @@ returns c =
       c .before .before .before .if1 .taken,
       ← c .before .before .slot-of .ensures,
       ← c .before .load-word .ensures,
-      ← c .land .ensures,
+      c .land .ensures,
     )
 
 returns-2 : tie.Need-returns-2
@@ -22,7 +22,7 @@ returns-2 c =
       ← c .before .before .before .load-list .ensures,
       ← c .before .before .holds .ensures,
       c .before .if1 .left,
-      ← c .settle .ensures,
+      c .settle .ensures,
     )
 
 pub arrive-list-spec : {M : Type 1} → statement M

@@ -9,7 +9,7 @@ returns c =
     rw (
       ← c .before .before .before .loads-many-of .ensures,
       c .before .before .if1 .taken,
-      ← c .arrive-list .ensures,
+      c .arrive-list .ensures,
     )
 
 returns-2 : tie.Need-returns-2
@@ -21,7 +21,7 @@ returns-2 c =
       ← c .before .before .before .before .before .before .before .is-steady .ensures,
       c .before .before .before .before .before .before .if2 .taken,
       ← c .before .before .before .store-list .ensures,
-      ← c .finish .ensures,
+      c .finish .ensures,
     )
 
 returns-3 : tie.Need-returns-3
@@ -32,7 +32,7 @@ returns-3 c =
       c .before .before .before .if1 .left,
       ← c .before .before .is-steady .ensures,
       c .before .if2 .left,
-      ← c .refuse .ensures,
+      c .refuse .ensures,
     )
 
 pub make-many-spec : {M : Type 1} → statement M

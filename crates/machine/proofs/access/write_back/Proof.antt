@@ -11,7 +11,7 @@ returns c =
 returns-2 : tie.Need-returns-2
 unfolding based
 returns-2 c =
-    rw (← c .before .before .is-offset-of .ensures, c .before .if1 .left, ← c .write .ensures)
+    rw (← c .before .before .is-offset-of .ensures, c .before .if1 .left, c .write .ensures)
 
 pub write-back-spec : {M : Type 1} → statement M
 write-back-spec = tie.close (tie.spec (λ c κs. search needs) returns (λ c κs. search needs) returns-2)

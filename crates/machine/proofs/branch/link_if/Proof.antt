@@ -6,7 +6,7 @@ use Rattle.machine.proofs.branch.link_if.Tie as tie
 returns : tie.Need-returns
 unfolding linking
 returns c =
-    rw (c .before .before .before .if1 .taken, ← c .before .before .register .ensures, ← c .before .link .ensures, ← c .write .ensures)
+    rw (c .before .before .before .if1 .taken, ← c .before .before .register .ensures, ← c .before .link .ensures, c .write .ensures)
 
 returns-2 : tie.Need-returns-2
 unfolding linking

@@ -6,7 +6,7 @@ use Rattle.machine.proofs.compute.put_result.Tie as tie
 returns : tie.Need-returns
 unfolding resulting
 returns c =
-    rw (← c .before .before .data-code-of .ensures, c .before .if1 .taken, ← c .write .ensures)
+    rw (← c .before .before .data-code-of .ensures, c .before .if1 .taken, c .write .ensures)
 
 returns-2 : tie.Need-returns-2
 unfolding resulting

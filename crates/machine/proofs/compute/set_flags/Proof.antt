@@ -6,7 +6,7 @@ use Rattle.machine.proofs.compute.set_flags.Tie as tie
 returns : tie.Need-returns
 unfolding flagged
 returns c =
-    rw (c .before .before .before .if1 .taken, ← c .before .with-all .ensures, ← c .with-flags .ensures)
+    rw (c .before .before .before .if1 .taken, ← c .before .with-all .ensures, c .with-flags .ensures)
 
 returns-2 : tie.Need-returns-2
 unfolding flagged
