@@ -286,12 +286,24 @@ function before_tried(cell,    at, count, word, i) {
     return substr(cell, 1, at - 1)
 }
 
-function look_up_edit(word,    crate) {
-    crate = word
+function look_up_edit(word) {
     if (word in labels && labels[word] > 1) missing(word, "edits of several crates: write CRATE/" word)
     else if (word in labels) named["edit", edit_of[word]]
     else if (word in edits) named["edit", word]
-    else if (!(sub(/\/\*$/, "", crate) && crate in edited)) missing(word, "no such edit")
+    else if (word !~ /^[a-z_]+\/.*\*/ || !is_edit_there(word)) missing(word, "no such edit")
+}
+
+# `crate/*` is all of a crate, and names none of them; `crate/a_*` names those in tests/edits/ whose label fits
+function is_edit_there(pattern,    crate, name, found) {
+    crate = pattern
+    if (sub(/\/\*$/, "", crate)) return crate in edited
+    gsub(/\*/, "[a-z0-9_]*", pattern)
+    for (name in edits)
+        if (name ~ ("^" pattern "$") && edits[name] ~ /^tests\//) {
+            named["edit", name]
+            found = 1
+        }
+    return found
 }
 
 # `steps; worked (..); LSL LSR at 32`: scripts or cases of tests/, or what lines of the edge values begin with
