@@ -3,7 +3,7 @@
 
 BEGIN {
     EDITS = "^(must-fail edits|first|second)$"
-    TITLES = "^(phrase of 01|definition|promise|function|proof|must-fail edits|first|second|test|crate|A|B|C|why)$"
+    TITLES = "^(phrase of 01|definition|promise|function|must-fail edits|first|second|test|crate|A|B|C|why|at|tried|edits|seconds|refused|not refused|tried how|how)$"
 }
 
 function amiss(what) {
@@ -12,7 +12,7 @@ function amiss(what) {
 }
 
 function missing(word, what) {
-    amiss("docs/PROMISES.md:" FNR ": " column ": " word ": " what)
+    amiss(FILENAME ":" FNR ": " column ": " word ": " what)
 }
 
 # ---- what there is
@@ -171,25 +171,22 @@ part == "promises" && /^\|/ {
         }
     } else if (!/^\|---/) {
         rows++
-        crate = theorem = ""
+        crate = ""
         for (i = 2; i < count; i++) look_up(title[i], cell[i])
         column = "row"
-        if (theorem != "") missing(theorem, "a theorem that the laws under proof don't have")
         if (count != columns) missing("cells", count - 2 " of them, of " columns - 2)
     }
 }
 
 function look_up(title, cell,    count, word, i) {
     column = title
-    spec = place = law = ""
+    spec = place = ""
     if (title == "test") look_up_test(cell)
-    if (title ~ EDITS) cell = before_tried(cell)
     count = split(cell, word, "`")
     for (i = 2; i <= count; i += 2)
         if (title == "definition") look_up_definition(word[i], word[i + 1])
-        else if (title == "promise" && word[i - 1] ~ /theorem $/) theorem = word[i]
+        else if (title == "promise" && word[i - 1] ~ /theorem $/) look_up_theorem(word[i])
         else if (title == "promise" || title == "function") look_up_function(word[i])
-        else if (title == "proof") look_up_proof(word[i], word[i + 1])
         else if (title ~ EDITS) look_up_edit(word[i])
         else if (title == "crate") crate = word[i]
         else if (title ~ /^[ABC]$/) look_up_public(word[i], title)
@@ -248,42 +245,14 @@ function look_up_function(word) {
     } else missing(word, known[word] ? "several functions: write CRATE::" word : "no such function")
 }
 
-function look_up_proof(word, after) {
-    if (after ~ /^:/ && word in crates) crate = word
-    else if (after ~ /^ found/) look_up_found(word)
-    else if (word ~ /\.antt$/) look_up_files(word)
-    else if ((law, word) in defined) definitions_named++
-    else if (word ~ /^[A-Z][A-Za-z0-9]*$/) look_up_laws("crates/" crate "/proofs/" word ".antt")
-    else look_up_files("crates/" crate "/proofs/" word "/Proof.antt")
-}
-
-# a file of laws, which may have the theorem that the row promises, and whose names may follow
-function look_up_laws(file) {
-    law = file
-    look_up_files(file)
-    if ((file, theorem) in defined) {
-        definitions_named++
-        theorem = ""
-    }
-}
-
-# a proof that the checker finds: the function is there, and has no file
-function look_up_found(path,    count, each, i) {
-    count = expand(path, each)
-    for (i = 1; i <= count; i++) {
-        if (("crates/" crate "/proofs/" each[i] "/Proof.antt") in there) missing(each[i], "its proof has a file")
-        gsub(/\//, "::", each[i])
-        if ((crate "::" each[i]) in heads) functions_named++
-        else missing(each[i], "no such function of " crate)
-    }
-}
-
-function before_tried(cell,    at, count, word, i) {
-    at = index(cell, "tried:")
-    if (!at) return cell
-    count = split(substr(cell, at), word, "`")
-    for (i = 2; i <= count; i += 2) if (word[i] in labels) missing(word[i], "an edit that is kept, after \"tried:\"")
-    return substr(cell, 1, at - 1)
+# a theorem is among the laws of some crate
+function look_up_theorem(word,    file) {
+    for (file in text_of)
+        if (file ~ /\/proofs\// && (file, word) in defined) {
+            definitions_named++
+            return
+        }
+    missing(word, "no such theorem in crates/*/proofs")
 }
 
 function look_up_edit(word) {
