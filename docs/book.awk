@@ -1,7 +1,7 @@
 # Read by ./book. `part` says what the file at hand is read for: the code, the definitions, the proofs, and last docs/book.order, whose
 # lines say what is written where. A byte above 127 belongs to a letter like ℕ (./book sets LC_ALL=C).
 
-BEGIN { WIDTH = 150 }
+BEGIN { WIDTH = 160 }
 
 function amiss(what) {
     print "book: " what >"/dev/stderr"
@@ -273,7 +273,7 @@ function declaration(text,    joined) {
 
 # The signature and the equations. One equation of plain arguments is written with the types of these; cases that come to the same
 # are written as one; short cases stand beside each other.
-function equations(name, line, lines,    count, left, right, i, at, arguments, argument, short, result) {
+function equations(name, line, lines,    count, left, right, i, at, arguments, argument, result) {
     count = 0
     for (i = 2; i <= lines; i++)
         if (line[i] ~ /^[^ })]/) {
@@ -286,16 +286,22 @@ function equations(name, line, lines,    count, left, right, i, at, arguments, a
     if (count == 1 && argument[1] == name && is_plain(argument, arguments) && line[1] !~ /\{/)
         return equation(headed(line[1], argument, arguments), right[1])
     count = merged(name, left, right, count)
-    short = count > 1
+    result = beside(left, right, count)
+    if (result !~ /\n/ && columns(line[1] ";  " result) <= 100) return line[1] ";  " result
+    return line[1] "\n" result
+}
+
+# equations that are short stand beside each other
+function beside(left, right, count,    i, one, short, was_short, result) {
     for (i = 1; i <= count; i++) {
-        left[i] = equation(left[i], right[i])
-        if (left[i] ~ /\n/ || columns(left[i]) > 50) short = 0
+        one = equation(left[i], right[i])
+        short = one !~ /\n/ && columns(one) <= WIDTH / 2
+        if (i == 1) result = one
+        else if (short && was_short && columns(result ";  " one) <= WIDTH - 4) result = result ";  " one
+        else result = result (was_short && short ? ";" : "") "\n" one
+        was_short = short
     }
-    result = left[1]
-    for (i = 2; i <= count; i++) result = result (short ? ";  " : "\n") left[i]
-    if (!short) return line[1] "\n" result
-    if (columns(line[1] ";  " result) <= 100) return line[1] ";  " result
-    return line[1] "\n" filled(result, ";  ", "", WIDTH - 4)
+    return result
 }
 
 function is_plain(argument, arguments,    i) {
@@ -476,12 +482,13 @@ function put_promise(name,    head, at, contract, result) {
     contract = substr(contract, index(contract, "⌜ ") + length("⌜ "))
     contract = substr(contract, 1, index(contract, " ⌝") - 1)
     if (!at || contracts[name] ~ /requires \{/) amiss(name ": no promise for every input")
-    gap()
+    if (was_promise != book) gap()
     put(filled("Promise of " name head ", for its result " result ":", ", ", "    ", WIDTH))
     at = index(contract, " ≡ ")
     if (columns(contract) > WIDTH - 4)
         contract = substr(contract, 1, at - 1) "\n  " broken(substr(contract, at + 1), "    ", WIDTH - 6)
     put(indented(contract))
+    was_promise = book
 }
 
 # ---- the order
@@ -553,7 +560,7 @@ function write(i,    count, word, k) {
         if (was != ">") gap()
         put(substr(entry[i], 3))
         names_in_text(i)
-    } else if (was ~ /^(>|promise|theorem)$/) gap()
+    } else if (was ~ /^(>|theorem)$/) gap()
     was = word[1]
     if (was == "=") {
         gap()
@@ -573,7 +580,6 @@ function write(i,    count, word, k) {
             if (word[k] == "head" && head_of[word[2]] != "") {
                 gap()
                 put(head_of[word[2]])
-                put("")
             } else if ((word[2], word[k]) in text_of) put_definition(word[2] SUBSEP word[k])
         }
     else if (was == "promise")
