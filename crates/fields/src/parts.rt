@@ -23,6 +23,7 @@ use record::op::Mode;
 use record::op::MultiplyOp;
 use record::op::SaturateOp;
 use record::op::Shift;
+use record::register;
 
 pub fn shifted_register_of(d: ShiftedRegisterFields) -> bool
     ensures { λ r. ⌜ r ≡ shifted-register-formed d ⌝ }
@@ -173,7 +174,7 @@ fn access_offset_of(mode: Mode, rn: u8, offset: i16) -> bool
 {
     match mode {
         Mode::Offset => {
-            let from_pc = rn == 15;
+            let from_pc = rn == register::PC;
             if from_pc {
                 return (-4095 <= offset) & (offset <= 4095);
             }

@@ -8,6 +8,7 @@ use record::Form;
 use record::IfThenFields;
 use record::Record;
 use record::op::DataOp;
+use record::register;
 use waiting::Waiting;
 
 // Where a record goes.
@@ -68,20 +69,21 @@ pub fn traits_of(r: Record) -> Traits
             let op = d.op;
             going_of(
                 d.form,
-                taken_if_of(record::op::is_ldr_of(op) & (d.rt == 15)),
+                taken_if_of(record::op::is_ldr_of(op) & (d.rt == register::PC)),
             )
         }
         Record::IndexedAccess(d) => {
             let op = d.op;
             going_of(
                 d.form,
-                taken_if_of(record::op::is_ldr_of(op) & (d.rt == 15)),
+                taken_if_of(record::op::is_ldr_of(op) & (d.rt == register::PC)),
             )
         }
         Record::DualAccess(d) => passing_of(d.form),
         Record::MultipleAccess(d) => {
             let op = d.op;
-            let leaves = record::op::loads_many_of(op) & register_list::holds(d.list, 15);
+            let leaves = record::op::loads_many_of(op)
+                & register_list::holds(d.list, register::PC as u32);
             going_of(d.form, taken_if_of(leaves))
         }
         Record::Branch(d) => branch_traits_of(d),
@@ -151,7 +153,7 @@ fn to_pc_of(op: DataOp, rd: u8) -> bool
     ensures { λ t. ⌜ t ≡ to-pc op rd ⌝ }
 {
     let code = record::op::data_code_of(op);
-    (rd == 15) & ((code == 0) | (code == 10))
+    (rd == register::PC) & ((code == 0) | (code == 10))
 }
 
 fn taken_if_of(test: bool) -> Way

@@ -28,11 +28,11 @@ pub struct Stepped {
 }
 
 impl Machine {
-    pub const SP: u8 = 13;
+    pub const SP: u8 = record::register::SP;
 
-    pub const LR: u8 = 14;
+    pub const LR: u8 = record::register::LR;
 
-    pub const PC: u8 = 15;
+    pub const PC: u8 = record::register::PC;
 
     pub fn new() -> Self
         ensures { λ r. ⌜ r ≡ fresh ⌝ }

@@ -1,6 +1,7 @@
 // A record: one decoded instruction, a variant for each kind. It keeps every field that its bytes have.
 
 pub mod op;
+pub mod register;
 
 use crate::op::AccessOp;
 use crate::op::AddOp;

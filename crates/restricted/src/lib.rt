@@ -5,6 +5,7 @@ mod parts;
 ghost use mathlib.Core.Path.{_≡_};
 ghost use Rattle.restricted.specs.Restricted.{allowed};
 use record::Record;
+use record::register;
 
 pub fn is_allowed(r: Record) -> bool
     ensures { λ t. ⌜ t ≡ allowed r ⌝ }
@@ -31,7 +32,7 @@ pub fn is_allowed(r: Record) -> bool
         Record::Branch(_) => true,
         Record::RegisterBranch(d) => {
             let op = d.op;
-            !(record::op::is_blx_of(op) & (d.rm == 15))
+            !(record::op::is_blx_of(op) & (d.rm == register::PC))
         }
         Record::CompareBranch(_) => true,
         Record::IfThen(d) => !(d.condition == 14) | (d.elses == 0),

@@ -14,11 +14,12 @@ use record::MultiplyFields;
 use record::ShiftedRegisterFields;
 use record::op::AccessOp;
 use record::op::DataOp;
+use record::register;
 
 pub fn plain_of(n: u8) -> bool
     ensures { λ r. ⌜ r ≡ plain n ⌝ }
 {
-    !((n == 13) | (n == 15))
+    !((n == register::SP) | (n == register::PC))
 }
 
 pub fn shifted_register_of(d: ShiftedRegisterFields) -> bool
@@ -31,7 +32,7 @@ pub fn shifted_register_of(d: ShiftedRegisterFields) -> bool
     let straight = lsl & (d.amount == 0) & !d.form.s;
     let rm = plain_of(d.rm);
     (code == 10) & straight
-        | (code == 0) & straight & (d.rd == 15) & (d.rn == 15) & rm
+        | (code == 0) & straight & (d.rd == register::PC) & (d.rn == register::PC) & rm
         | first_operand_of(op, d.rn) & result_of(op, d.rd, d.rn, lsl & (d.amount <= 3)) & rm
 }
 
@@ -46,20 +47,21 @@ fn first_operand_of(op: DataOp, rn: u8) -> bool
     ensures { λ r. ⌜ r ≡ first-operand op rn ⌝ }
 {
     let code = record::op::data_code_of(op);
-    plain_of(rn) | (rn == 13) & ((code == 0) | (code == 2) | ((code == 12) | (code == 13)))
+    plain_of(rn)
+        | (rn == register::SP) & ((code == 0) | (code == 2) | ((code == 12) | (code == 13)))
 }
 
 fn result_of(op: DataOp, rd: u8, rn: u8, small: bool) -> bool
     ensures { λ r. ⌜ r ≡ result op rd rn small ⌝ }
 {
     let code = record::op::data_code_of(op);
-    plain_of(rd) | (rd == 13) & ((code == 0) | (code == 2)) & (rn == 13) & small
+    plain_of(rd) | (rd == register::SP) & ((code == 0) | (code == 2)) & (rn == register::SP) & small
 }
 
 pub fn add_number_of(d: AddNumberFields) -> bool
     ensures { λ r. ⌜ r ≡ add-number-allowed d ⌝ }
 {
-    plain_of(d.rd) | (d.rd == 13) & (d.rn == 13)
+    plain_of(d.rd) | (d.rd == register::SP) & (d.rn == register::SP)
 }
 
 pub fn multiply_of(d: MultiplyFields) -> bool
@@ -87,7 +89,7 @@ fn transferred_of(op: AccessOp, rt: u8) -> bool
         AccessOp::Ldrh => plain_of(rt),
         AccessOp::Ldrsb => plain_of(rt),
         AccessOp::Ldrsh => plain_of(rt),
-        AccessOp::Str => !(rt == 15),
+        AccessOp::Str => !(rt == register::PC),
         AccessOp::Strb => plain_of(rt),
         AccessOp::Strh => plain_of(rt),
     }
@@ -100,7 +102,7 @@ pub fn access_of(d: AccessFields) -> bool
     let mode = d.mode;
     let offset = record::op::is_offset_of(mode);
     transferred_of(op, d.rt)
-        & (!(d.rn == 15) | record::op::loads_of(op) & offset)
+        & (!(d.rn == register::PC) | record::op::loads_of(op) & offset)
         & (offset | !(d.rn == d.rt))
 }
 
@@ -108,7 +110,7 @@ pub fn indexed_access_of(d: IndexedAccessFields) -> bool
     ensures { λ r. ⌜ r ≡ indexed-access-allowed d ⌝ }
 {
     let op = d.op;
-    transferred_of(op, d.rt) & !(d.rn == 15) & plain_of(d.rm)
+    transferred_of(op, d.rt) & !(d.rn == register::PC) & plain_of(d.rm)
 }
 
 pub fn dual_access_of(d: DualAccessFields) -> bool
@@ -121,7 +123,7 @@ pub fn dual_access_of(d: DualAccessFields) -> bool
     plain_of(d.rt)
         & plain_of(d.rt2)
         & (!loads | !(d.rt == d.rt2))
-        & (!(d.rn == 15) | loads & offset)
+        & (!(d.rn == register::PC) | loads & offset)
         & (offset | !(d.rn == d.rt) & !(d.rn == d.rt2))
 }
 
@@ -130,11 +132,11 @@ pub fn multiple_access_of(d: MultipleAccessFields) -> bool
 {
     let op = d.op;
     let list = d.list;
-    let pc = register_list::holds(list, 15);
+    let pc = register_list::holds(list, register::PC as u32);
     !(list == 0)
-        & !register_list::holds(list, 13)
+        & !register_list::holds(list, register::SP as u32)
         & !(pc & !record::op::loads_many_of(op))
-        & !(register_list::holds(list, 14) & pc)
+        & !(register_list::holds(list, register::LR as u32) & pc)
         & !(d.writeback & register_list::holds(list, d.rn as u32))
-        & !(d.rn == 15)
+        & !(d.rn == register::PC)
 }
