@@ -3,6 +3,7 @@
 ghost use mathlib.Core.Path.{_≡_};
 ghost use mathlib.Core.List.{[], _∷_};
 ghost use Rattle.little.specs.Little.{number-at};
+ghost use Rattle.record.specs.declared.Record.the-variants.{ShiftedRegister, Constant, RegisterShift, AddNumber, MoveNumber, Unary, Multiply, LongMultiply, Divide, Saturate, BitField, Extend, Access, IndexedAccess, DualAccess, MultipleAccess, Branch, RegisterBranch, CompareBranch, IfThen};
 ghost use Rattle.kinds.specs.Kinds.{nine, listing-length, names, form, record-of, shifted-register-from, constant-from, register-shift-from, add-number-from, move-number-from, unary-from, multiply-from, long-multiply-from, divide-from, saturate-from, bit-field-from, extend-from, access-from, indexed-access-from, dual-access-from, multiple-access-from, branch-from, register-branch-from, compare-branch-from, if-then-from};
 use record::AccessFields;
 use record::AddNumberFields;
@@ -34,26 +35,26 @@ pub fn record_from(r: [u8; 9]) -> Record
     let kind = r[0];
     match kind {
         0 => Record::Nop(form_of(r[1])),
-        1 => shifted_register_from(r),
-        2 => constant_from(r),
-        3 => register_shift_from(r),
-        4 => add_number_from(r),
-        5 => move_number_from(r),
-        6 => unary_from(r),
-        7 => multiply_from(r),
-        8 => long_multiply_from(r),
-        9 => divide_from(r),
-        10 => saturate_from(r),
-        11 => bit_field_from(r),
-        12 => extend_from(r),
-        13 => access_from(r),
-        14 => indexed_access_from(r),
-        15 => dual_access_from(r),
-        16 => multiple_access_from(r),
-        17 => branch_from(r),
-        18 => register_branch_from(r),
-        19 => compare_branch_from(r),
-        20 => if_then_from(r),
+        1 => Record::ShiftedRegister(shifted_register_from(r)),
+        2 => Record::Constant(constant_from(r)),
+        3 => Record::RegisterShift(register_shift_from(r)),
+        4 => Record::AddNumber(add_number_from(r)),
+        5 => Record::MoveNumber(move_number_from(r)),
+        6 => Record::Unary(unary_from(r)),
+        7 => Record::Multiply(multiply_from(r)),
+        8 => Record::LongMultiply(long_multiply_from(r)),
+        9 => Record::Divide(divide_from(r)),
+        10 => Record::Saturate(saturate_from(r)),
+        11 => Record::BitField(bit_field_from(r)),
+        12 => Record::Extend(extend_from(r)),
+        13 => Record::Access(access_from(r)),
+        14 => Record::IndexedAccess(indexed_access_from(r)),
+        15 => Record::DualAccess(dual_access_from(r)),
+        16 => Record::MultipleAccess(multiple_access_from(r)),
+        17 => Record::Branch(branch_from(r)),
+        18 => Record::RegisterBranch(register_branch_from(r)),
+        19 => Record::CompareBranch(compare_branch_from(r)),
+        20 => Record::IfThen(if_then_from(r)),
         _ => Record::Nop(form_of(r[1])),
     }
 }
@@ -79,10 +80,10 @@ fn word_of(a: u8, b: u8, c: u8, d: u8) -> u32
     (half_of(c, d) as u32) << 16 | half_of(a, b) as u32
 }
 
-fn shifted_register_from(r: [u8; 9]) -> Record
-    ensures { λ t. ⌜ t ≡ shifted-register-from r ⌝ }
+fn shifted_register_from(r: [u8; 9]) -> ShiftedRegisterFields
+    ensures { λ t. ⌜ ShiftedRegister t ≡ shifted-register-from r ⌝ }
 {
-    Record::ShiftedRegister(ShiftedRegisterFields {
+    ShiftedRegisterFields {
         op: record::op::data_op_of(r[1]),
         form: form_of(r[2]),
         rd: r[3],
@@ -90,109 +91,109 @@ fn shifted_register_from(r: [u8; 9]) -> Record
         rm: r[5],
         shift: record::op::shift_of(r[6]),
         amount: r[7],
-    })
+    }
 }
 
-fn constant_from(r: [u8; 9]) -> Record
-    ensures { λ t. ⌜ t ≡ constant-from r ⌝ }
+fn constant_from(r: [u8; 9]) -> ConstantFields
+    ensures { λ t. ⌜ Constant t ≡ constant-from r ⌝ }
 {
-    Record::Constant(ConstantFields {
+    ConstantFields {
         op: record::op::data_op_of(r[1]),
         form: form_of(r[2]),
         rd: r[3],
         rn: r[4],
         constant: word_of(r[5], r[6], r[7], r[8]),
-    })
+    }
 }
 
-fn register_shift_from(r: [u8; 9]) -> Record
-    ensures { λ t. ⌜ t ≡ register-shift-from r ⌝ }
+fn register_shift_from(r: [u8; 9]) -> RegisterShiftFields
+    ensures { λ t. ⌜ RegisterShift t ≡ register-shift-from r ⌝ }
 {
-    Record::RegisterShift(RegisterShiftFields {
+    RegisterShiftFields {
         shift: record::op::shift_of(r[1]),
         form: form_of(r[2]),
         rd: r[3],
         rn: r[4],
         rs: r[5],
-    })
+    }
 }
 
-fn add_number_from(r: [u8; 9]) -> Record
-    ensures { λ t. ⌜ t ≡ add-number-from r ⌝ }
+fn add_number_from(r: [u8; 9]) -> AddNumberFields
+    ensures { λ t. ⌜ AddNumber t ≡ add-number-from r ⌝ }
 {
-    Record::AddNumber(AddNumberFields {
+    AddNumberFields {
         op: record::op::add_op_of(r[1]),
         form: form_of(r[2]),
         rd: r[3],
         rn: r[4],
         number: half_of(r[5], r[6]),
-    })
+    }
 }
 
-fn move_number_from(r: [u8; 9]) -> Record
-    ensures { λ t. ⌜ t ≡ move-number-from r ⌝ }
+fn move_number_from(r: [u8; 9]) -> MoveNumberFields
+    ensures { λ t. ⌜ MoveNumber t ≡ move-number-from r ⌝ }
 {
-    Record::MoveNumber(MoveNumberFields {
+    MoveNumberFields {
         op: record::op::move_op_of(r[1]),
         form: form_of(r[2]),
         rd: r[3],
         number: half_of(r[4], r[5]),
-    })
+    }
 }
 
-fn unary_from(r: [u8; 9]) -> Record
-    ensures { λ t. ⌜ t ≡ unary-from r ⌝ }
+fn unary_from(r: [u8; 9]) -> UnaryFields
+    ensures { λ t. ⌜ Unary t ≡ unary-from r ⌝ }
 {
-    Record::Unary(UnaryFields {
+    UnaryFields {
         op: record::op::unary_op_of(r[1]),
         form: form_of(r[2]),
         rd: r[3],
         rm: r[4],
-    })
+    }
 }
 
-fn multiply_from(r: [u8; 9]) -> Record
-    ensures { λ t. ⌜ t ≡ multiply-from r ⌝ }
+fn multiply_from(r: [u8; 9]) -> MultiplyFields
+    ensures { λ t. ⌜ Multiply t ≡ multiply-from r ⌝ }
 {
-    Record::Multiply(MultiplyFields {
+    MultiplyFields {
         op: record::op::multiply_op_of(r[1]),
         form: form_of(r[2]),
         rd: r[3],
         rn: r[4],
         rm: r[5],
         ra: r[6],
-    })
+    }
 }
 
-fn long_multiply_from(r: [u8; 9]) -> Record
-    ensures { λ t. ⌜ t ≡ long-multiply-from r ⌝ }
+fn long_multiply_from(r: [u8; 9]) -> LongMultiplyFields
+    ensures { λ t. ⌜ LongMultiply t ≡ long-multiply-from r ⌝ }
 {
-    Record::LongMultiply(LongMultiplyFields {
+    LongMultiplyFields {
         op: record::op::long_op_of(r[1]),
         form: form_of(r[2]),
         low: r[3],
         high: r[4],
         rn: r[5],
         rm: r[6],
-    })
+    }
 }
 
-fn divide_from(r: [u8; 9]) -> Record
-    ensures { λ t. ⌜ t ≡ divide-from r ⌝ }
+fn divide_from(r: [u8; 9]) -> DivideFields
+    ensures { λ t. ⌜ Divide t ≡ divide-from r ⌝ }
 {
-    Record::Divide(DivideFields {
+    DivideFields {
         op: record::op::divide_op_of(r[1]),
         form: form_of(r[2]),
         rd: r[3],
         rn: r[4],
         rm: r[5],
-    })
+    }
 }
 
-fn saturate_from(r: [u8; 9]) -> Record
-    ensures { λ t. ⌜ t ≡ saturate-from r ⌝ }
+fn saturate_from(r: [u8; 9]) -> SaturateFields
+    ensures { λ t. ⌜ Saturate t ≡ saturate-from r ⌝ }
 {
-    Record::Saturate(SaturateFields {
+    SaturateFields {
         op: record::op::saturate_op_of(r[1]),
         form: form_of(r[2]),
         rd: r[3],
@@ -200,64 +201,64 @@ fn saturate_from(r: [u8; 9]) -> Record
         rm: r[5],
         shift: record::op::shift_of(r[6]),
         amount: r[7],
-    })
+    }
 }
 
-fn bit_field_from(r: [u8; 9]) -> Record
-    ensures { λ t. ⌜ t ≡ bit-field-from r ⌝ }
+fn bit_field_from(r: [u8; 9]) -> BitFieldFields
+    ensures { λ t. ⌜ BitField t ≡ bit-field-from r ⌝ }
 {
-    Record::BitField(BitFieldFields {
+    BitFieldFields {
         op: record::op::field_op_of(r[1]),
         form: form_of(r[2]),
         rd: r[3],
         rn: r[4],
         lsb: r[5],
         width: r[6],
-    })
+    }
 }
 
-fn extend_from(r: [u8; 9]) -> Record
-    ensures { λ t. ⌜ t ≡ extend-from r ⌝ }
+fn extend_from(r: [u8; 9]) -> ExtendFields
+    ensures { λ t. ⌜ Extend t ≡ extend-from r ⌝ }
 {
-    Record::Extend(ExtendFields {
+    ExtendFields {
         op: record::op::extend_op_of(r[1]),
         form: form_of(r[2]),
         rd: r[3],
         rm: r[4],
         rotation: r[5],
-    })
+    }
 }
 
-fn access_from(r: [u8; 9]) -> Record
-    ensures { λ t. ⌜ t ≡ access-from r ⌝ }
+fn access_from(r: [u8; 9]) -> AccessFields
+    ensures { λ t. ⌜ Access t ≡ access-from r ⌝ }
 {
-    Record::Access(AccessFields {
+    AccessFields {
         op: record::op::access_op_of(r[1]),
         form: form_of(r[2]),
         rt: r[3],
         rn: r[4],
         mode: record::op::mode_of(r[5]),
         offset: word::signed_half_of(half_of(r[6], r[7])),
-    })
+    }
 }
 
-fn indexed_access_from(r: [u8; 9]) -> Record
-    ensures { λ t. ⌜ t ≡ indexed-access-from r ⌝ }
+fn indexed_access_from(r: [u8; 9]) -> IndexedAccessFields
+    ensures { λ t. ⌜ IndexedAccess t ≡ indexed-access-from r ⌝ }
 {
-    Record::IndexedAccess(IndexedAccessFields {
+    IndexedAccessFields {
         op: record::op::access_op_of(r[1]),
         form: form_of(r[2]),
         rt: r[3],
         rn: r[4],
         rm: r[5],
         amount: r[6],
-    })
+    }
 }
 
-fn dual_access_from(r: [u8; 9]) -> Record
-    ensures { λ t. ⌜ t ≡ dual-access-from r ⌝ }
+fn dual_access_from(r: [u8; 9]) -> DualAccessFields
+    ensures { λ t. ⌜ DualAccess t ≡ dual-access-from r ⌝ }
 {
-    Record::DualAccess(DualAccessFields {
+    DualAccessFields {
         op: record::op::dual_op_of(r[1]),
         form: form_of(r[2]),
         rt: r[3],
@@ -265,62 +266,62 @@ fn dual_access_from(r: [u8; 9]) -> Record
         rn: r[5],
         mode: record::op::mode_of(r[6]),
         offset: word::signed_half_of(half_of(r[7], r[8])),
-    })
+    }
 }
 
-fn multiple_access_from(r: [u8; 9]) -> Record
-    ensures { λ t. ⌜ t ≡ multiple-access-from r ⌝ }
+fn multiple_access_from(r: [u8; 9]) -> MultipleAccessFields
+    ensures { λ t. ⌜ MultipleAccess t ≡ multiple-access-from r ⌝ }
 {
-    Record::MultipleAccess(MultipleAccessFields {
+    MultipleAccessFields {
         op: record::op::multiple_op_of(r[1]),
         form: form_of(r[2]),
         rn: r[3],
         writeback: word::bit_of(0, r[4] as u32),
         list: half_of(r[5], r[6]),
-    })
+    }
 }
 
-fn branch_from(r: [u8; 9]) -> Record
-    ensures { λ t. ⌜ t ≡ branch-from r ⌝ }
+fn branch_from(r: [u8; 9]) -> BranchFields
+    ensures { λ t. ⌜ Branch t ≡ branch-from r ⌝ }
 {
-    Record::Branch(BranchFields {
+    BranchFields {
         op: record::op::branch_op_of(r[1]),
         form: form_of(r[2]),
         condition: r[3],
         offset: word::signed_of(word_of(r[4], r[5], r[6], r[7])),
-    })
+    }
 }
 
-fn register_branch_from(r: [u8; 9]) -> Record
-    ensures { λ t. ⌜ t ≡ register-branch-from r ⌝ }
+fn register_branch_from(r: [u8; 9]) -> RegisterBranchFields
+    ensures { λ t. ⌜ RegisterBranch t ≡ register-branch-from r ⌝ }
 {
-    Record::RegisterBranch(RegisterBranchFields {
+    RegisterBranchFields {
         op: record::op::register_op_of(r[1]),
         form: form_of(r[2]),
         rm: r[3],
-    })
+    }
 }
 
-fn compare_branch_from(r: [u8; 9]) -> Record
-    ensures { λ t. ⌜ t ≡ compare-branch-from r ⌝ }
+fn compare_branch_from(r: [u8; 9]) -> CompareBranchFields
+    ensures { λ t. ⌜ CompareBranch t ≡ compare-branch-from r ⌝ }
 {
-    Record::CompareBranch(CompareBranchFields {
+    CompareBranchFields {
         op: record::op::compare_op_of(r[1]),
         form: form_of(r[2]),
         rn: r[3],
         offset: r[4],
-    })
+    }
 }
 
-fn if_then_from(r: [u8; 9]) -> Record
-    ensures { λ t. ⌜ t ≡ if-then-from r ⌝ }
+fn if_then_from(r: [u8; 9]) -> IfThenFields
+    ensures { λ t. ⌜ IfThen t ≡ if-then-from r ⌝ }
 {
-    Record::IfThen(IfThenFields {
+    IfThenFields {
         form: form_of(r[1]),
         condition: r[2],
         count: r[3],
         elses: r[4],
-    })
+    }
 }
 
 // By the kind: the bytes of a record, and the names in its row of the table.
