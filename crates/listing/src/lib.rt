@@ -83,8 +83,7 @@ fn end_fault_of(point: Point) -> u32
     if open {
         return 4;
     }
-    let high = 0xffff_fffe < point.address.0;
-    if high {
+    if 0xffff_fffe < point.address.0 {
         return 1;
     }
     0

@@ -69,12 +69,10 @@ pub run-inside : (count : ℕ) (setup : Setup) (size a : ℕ)
 unfolding inside
 run-inside zero setup size a h k l = refl
 run-inside (suc n) setup size a h k l =
-    let e : (a + n) % 2 ^ 32 ≡ a + n = omega arith in
     rw (
       run-inside n setup size a h (omega arith) (omega arith),
-      e,
-      le-leb (setup .base) (a + n) (omega arith),
-      lt-ltb (a + n) (setup .base + size) (omega arith),
+      le-leb (setup .base) (further a n) (omega arith),
+      lt-ltb (further a n) (setup .base + size) (omega arith),
     )
 
 -- two accesses of k bytes, one above the other
@@ -92,7 +90,7 @@ stored-wrapped : (count : ℕ) (setup : Setup) (bytes : List ℕ) (a v : ℕ) �
 unfolding stored
 stored-wrapped zero setup bytes a v = refl
 stored-wrapped (suc n) setup bytes a v =
-    let e : (a % 2 ^ 32 + n) % 2 ^ 32 ≡ (a + n) % 2 ^ 32 = omega arith in
+    let e : further (a % 2 ^ 32) n ≡ further a n = omega arith in
     rw (stored-wrapped n setup bytes a v, e)
 
 -- the j lowest bytes, and the k above them
