@@ -9,6 +9,7 @@ enum { N = 64, Z, C, V, Q, COUNT, FIRST, SECOND, FOURTH = SECOND + 2, LENGTH };
 static const uint8_t record[] = {0x0D, 0x05, 0x02, 0x01, 0x02, 0x00, 0x00, 0x00};
 static const uint8_t stored[] = {0xD4, 0xC3, 0xB2, 0xA1};
 static int asked, wrong;
+enum { LEAST = 260 }; /* as many as there were when this was last changed: fewer is a loss that must not go unseen */
 
 static void want(const char *what, int length, const char *about, int holds) {
     asked++;
@@ -82,5 +83,5 @@ int main(void) {
     try("long", LENGTH + 1, (int[6]){0}, 1, 0);
     try("none", 0, (int[6]){0}, 1, 0);
     printf("images: %d answers asked, %d wrong\n", asked, wrong);
-    return wrong != 0;
+    return wrong != 0 || asked < LEAST;
 }
