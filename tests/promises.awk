@@ -3,7 +3,7 @@
 
 BEGIN {
     EDITS = "^(must-fail edits|first|second)$"
-    TITLES = "^(phrase of 01|definition|promise|function|must-fail edits|first|second|test|crate|A|B|C|why|at|tried|edits|seconds|refused|not refused|tried how|how)$"
+    TITLES = "^(phrase of 0[12]|definition|promise|function|must-fail edits|first|second|test|crate|A|B|C|why|at|tried|edits|seconds|refused|not refused|tried how|how)$"
 }
 
 function amiss(what) {

@@ -6,6 +6,7 @@ mod fixed;
 mod large;
 mod record;
 pub mod scene;
+mod shifts;
 mod sights;
 mod spoil;
 mod tally;
@@ -20,6 +21,8 @@ use tally::Tally;
 
 pub const SEED: u64 = 0x57E9_2026;
 const STEPS: u64 = 2_000_000;
+/// Of kind 03 alone.
+const SHIFTS: u64 = 250_000;
 /// With memory of any length, also at its limit, which takes long to compare.
 const LARGE: u64 = 4_000;
 
@@ -31,6 +34,9 @@ pub fn run(least: u64, seed: u64) -> Result<String, String> {
     fixed::records(&mut comparison, &stock)?;
     for _ in 0..STEPS {
         comparison.put(&question(&mut prng, &stock))?;
+    }
+    for _ in 0..SHIFTS {
+        comparison.put(&shifts::question(&mut prng))?;
     }
     for _ in 0..LARGE {
         comparison.put(&large::question(&mut prng, &stock))?;

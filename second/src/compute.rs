@@ -82,7 +82,8 @@ fn operate(
     value
 }
 
-/// "In kind 03 the amount is the number held in Rs (house)."
+/// Order 2: "in kind 03 the amount is 0 to 255, the lowest eight bits. Amount 0 then leaves C alone
+/// even when Rs isn't zero."
 fn shift_by(
     now: &Machine,
     next: &mut Machine,
@@ -91,7 +92,7 @@ fn shift_by(
     rn: Register,
     rs: Register,
 ) -> u32 {
-    let (value, carry) = shifted(shift, now.operand(rn), now.operand(rs), now.c);
+    let (value, carry) = shifted(shift, now.operand(rn), now.operand(rs) & 0xFF, now.c);
     set_logic_flags(next, s, value, carry);
     value
 }

@@ -1,6 +1,7 @@
-//! A second program for the card stepper, written from paper 01 alone, so that its answers can be
-//! compared with those of the proved one. Comments quote paper 01 or give a reason; R1, R2 and on
-//! are the readings listed in docs/DECISIONS.md.
+//! A second program for the card stepper, written from paper 01 and the landed orders of paper 02
+//! alone, so that its answers can be compared with those of the proved one. Comments quote paper
+//! 01, or an order by its number, or give a reason; R1, S24 and the like are the readings listed
+//! in docs/DECISIONS.md.
 #![forbid(unsafe_code)]
 
 pub mod access;

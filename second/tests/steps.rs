@@ -2,18 +2,11 @@
 
 mod common;
 use common::*;
-use second::machine::Machine;
 use second::step::step;
 
 /// Kind 01 and kind 03 with S, R0 from R1 and R2.
 fn operate(op: u8, shift: u8, n: u8) -> [u8; 8] {
     [0x01, op, 1, 0, 1, 2, shift, n]
-}
-
-fn with_flags(registers: &[(usize, u32)], nzcv: [bool; 4]) -> Machine {
-    let mut machine = machine(registers);
-    [machine.n, machine.z, machine.c, machine.v] = nzcv;
-    machine
 }
 
 #[test]
@@ -138,24 +131,27 @@ fn the_carry_of_constants() {
 }
 
 #[test]
-fn kind_03_takes_the_whole_number_in_rs() {
+fn kind_03_shifts_by_0_to_255() {
     let x = 0x8000_0001;
     for (shift, amount, value, carry) in [
         (0, 1, 2, Some(true)),
         (0, 32, 0, Some(true)),
         (0, 33, 0, Some(false)),
-        (0, 256, 0, Some(false)),
+        (0, 255, 0, Some(false)),
         (1, 31, 1, Some(false)),
         (1, 32, 0, Some(true)),
         (1, 33, 0, Some(false)),
+        (1, 255, 0, Some(false)),
         (2, 31, 0xFFFF_FFFF, Some(false)),
         (2, 32, 0xFFFF_FFFF, Some(true)),
-        (2, 0xFFFF_FFFF, 0xFFFF_FFFF, Some(true)),
+        (2, 255, 0xFFFF_FFFF, Some(true)),
         (3, 1, 0xC000_0000, Some(true)),
         (3, 32, x, Some(true)),
         (3, 33, 0xC000_0000, Some(true)),
-        (3, 256, x, Some(true)),
         (3, 63, 3, Some(false)),
+        (3, 64, x, Some(true)),
+        (3, 224, x, Some(true)),
+        (3, 255, 3, Some(false)),
         (0, 0, x, None),
         (1, 0, x, None),
         (2, 0, x, None),

@@ -39,7 +39,7 @@ impl Look<'_> {
 
 type Sight = (&'static str, fn(&Look) -> bool);
 
-pub const SIGHTS: [Sight; 31] = [
+pub const SIGHTS: [Sight; 32] = [
     ("loop", |look| look.branch_with_condition() && look.went() && look.went_back()),
     ("branch on", |look| look.branch_with_condition() && look.went() && !look.went_back()),
     ("branch not taken", |look| look.branch_with_condition() && !look.went()),
@@ -74,5 +74,9 @@ pub const SIGHTS: [Sight; 31] = [
     ("passed in a block", |look| look.in_block() && look.passed()),
     ("failed in a block", |look| look.in_block() && !look.passed()),
     ("went out of a block", |look| look.in_block() && look.went()),
+    ("shift by Rs above 255", |look| {
+        matches!(*look.record, [0x03, .., rs] if look.before.registers[usize::from(rs)] > 255)
+            && look.passed()
+    }),
     ("R13 and R14 saved", |look| matches!(look.record, [0x0D, 5, _, 13 | 14, ..])),
 ];

@@ -3,6 +3,7 @@
 
 use super::ends::way;
 use super::scene::{value, Scene};
+use super::shifts;
 use crate::prng::Prng;
 
 const LDR: u8 = 0;
@@ -83,6 +84,7 @@ fn amount(prng: &mut Prng, scene: &mut Scene, rs: u8) {
     match prng.below(4) {
         0 => (),
         1 => scene.set(rs, prng.below(36)),
+        2 => scene.set(rs, shifts::rs(prng)),
         _ => scene.set(rs, prng.pick(&AMOUNTS)),
     }
 }

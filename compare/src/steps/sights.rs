@@ -26,8 +26,8 @@ impl Look<'_> {
         }
     }
 
-    /// The amount of kind 03.
-    fn amount(&self) -> Option<u32> {
+    /// What Rs of kind 03 holds.
+    fn rs(&self) -> Option<u32> {
         match *self.record {
             [0x03, _, _, _, _, rs] => Some(self.register(rs)),
             _ => None,
@@ -44,7 +44,7 @@ impl Look<'_> {
 type Sight = (&'static str, fn(&Look) -> bool);
 
 /// Of steps whose condition passed.
-pub const SIGHTS: [Sight; 24] = [
+pub const SIGHTS: [Sight; 23] = [
     ("ORR of a register with a bit of Rn", |look| {
         matches!(*look.record, [0x01, 6, _, _, rn, rm, 0, n]
             if look.register(rn) & look.register(rm) << n != 0)
@@ -60,11 +60,10 @@ pub const SIGHTS: [Sight; 24] = [
     ("MOV from R15", |look| matches!(look.record, [0x01, 10, _, _, _, 15, ..])),
     ("kind 04 from R15", |look| matches!(look.record, [0x04, _, _, _, 15, ..])),
     ("kind 04 to R13", |look| matches!(look.record, [0x04, _, _, 13, ..])),
-    ("shift by 0", |look| look.amount() == Some(0)),
-    ("shift by 31", |look| look.amount() == Some(31)),
-    ("shift by 32", |look| look.amount() == Some(32)),
-    ("shift by 33", |look| look.amount() == Some(33)),
-    ("shift by more than a byte", |look| look.amount().map_or(false, |amount| amount > 255)),
+    ("shift by 0", |look| look.rs() == Some(0)),
+    ("shift by 31", |look| look.rs() == Some(31)),
+    ("shift by 32", |look| look.rs() == Some(32)),
+    ("shift by 33", |look| look.rs() == Some(33)),
     ("division by 0", |look| matches!(*look.record, [0x09, .., rm] if look.register(rm) == 0)),
     ("minimum by -1", |look| {
         matches!(*look.record, [0x09, 0, _, _, rn, rm]

@@ -1,6 +1,7 @@
 //! How the steps ended, and whether all that paper 01 lets occur did.
 
 use super::ends::Ends;
+use super::shifts::Shifts;
 use super::sights::{Look, SIGHTS};
 use crate::cover::Cover;
 use crate::image::{CONDITIONS, COUNT};
@@ -28,6 +29,7 @@ pub struct Tally {
     /// The sizes of the lists of kind 10 done, as a bit each, by op.
     sizes: [u32; 4],
     seen: [u64; SIGHTS.len()],
+    shifts: Shifts,
     ends: Ends,
     shapes: Shapes,
     images: ImageBytes,
@@ -39,14 +41,22 @@ pub struct Tally {
 
 impl Tally {
     pub fn new(stock: &[Vec<u8>]) -> Tally {
-        let (ended, done) = ([[0; NUMBERS]; KINDS + 1], [[0; 16]; KINDS + 1]);
-        let (ruled, seen) = ([[0; 2]; AL + 1], [0; SIGHTS.len()]);
-        let (waited, sizes, ends, shapes) = ([0; 5], [0; 4], Ends::new(), Shapes::new(stock));
-        let (images, over) = (ImageBytes::new(), 0);
         // without a byte there is nothing to access
         let is_case = |class: usize, accessed: usize| class > 0 || accessed == 0;
-        let lengths = Cover::new("lengths of memory by powers of 2", [CLASSES, 2], is_case);
-        Tally { ended, done, ruled, waited, sizes, seen, ends, shapes, images, lengths, over }
+        Tally {
+            ended: [[0; NUMBERS]; KINDS + 1],
+            done: [[0; 16]; KINDS + 1],
+            ruled: [[0; 2]; AL + 1],
+            waited: [0; 5],
+            sizes: [0; 4],
+            seen: [0; SIGHTS.len()],
+            shifts: Shifts::new(),
+            ends: Ends::new(),
+            shapes: Shapes::new(stock),
+            images: ImageBytes::new(),
+            lengths: Cover::new("lengths of memory by powers of 2", [CLASSES, 2], is_case),
+            over: 0,
+        }
     }
 
     pub fn step(&mut self, question: &Question, answer: &Answer) {
@@ -85,6 +95,7 @@ impl Tally {
             return;
         }
         self.done[kind][op] += 1;
+        self.shifts.see(&look);
         if let (0x0D..=0x10, Some(class)) = (kind, class) {
             self.lengths.see(class, 1);
         }
@@ -129,7 +140,8 @@ impl Tally {
             gaps.push("memory was never one byte over its limit".to_string());
         }
         gaps.extend(self.lengths.gap());
-        [gaps, self.ends.gaps(), self.shapes.gaps(), self.images.gaps()].concat()
+        let (shifts, ends) = (self.shifts.gaps(), self.ends.gaps());
+        [gaps, shifts, ends, self.shapes.gaps(), self.images.gaps()].concat()
     }
 }
 
@@ -166,7 +178,7 @@ impl fmt::Display for Tally {
             .collect();
         writeln!(f, "among them: {}", seen.join(", "))?;
         writeln!(f, "{}; one byte over its limit: {}", self.lengths, self.over)?;
-        write!(f, "{}{}{}", self.ends, self.shapes, self.images)
+        write!(f, "{}{}{}{}", self.shifts, self.ends, self.shapes, self.images)
     }
 }
 

@@ -1,6 +1,6 @@
 -- What the records of kinds 01 to 0C do: m is the machine before, from which all is read, next the machine at the next record. 7 is for a
 -- value for R13 that is no multiple of 4.
-use Prim.Native.Nat.{ℕ}
+use Prim.Native.Nat.{ℕ, _%_, _^_}
 use mathlib.Core.Bool.{Bool}
 use lib.Dec.{ltb}
 use Rattle.word.specs.Choice.{if_then_else_}
@@ -55,9 +55,9 @@ constant-effect m next d setup =
     let y = constant-operand (d .constant) (m .flags .c) in
     settled m (data-done m next (d .op) (d .form .s) (d .rd) (operand-value m (d .rn)) y)
 
--- "In kind 03 the amount is the number held in Rs (house)."
+-- order 2 of paper 02: "in kind 03 the amount is 0 to 255, the lowest eight bits" of Rs
 unfoldable pub register-amount : ℕ → ℕ
-register-amount rs = rs
+register-amount rs = rs % 2 ^ 8
 
 -- 03, a move of what the shifter gives
 unfoldable pub register-shift-effect : Machine → Machine → RegisterShiftFields → Setup → Stepped

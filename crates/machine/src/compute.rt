@@ -67,11 +67,11 @@ pub fn operate_constant(m: Machine, next: Machine, d: ConstantFields, setup: Set
     crate::settle(m, operate(m, next, op, d.form.s, d.rd, m.operand(d.rn), y))
 }
 
-// The amount of kind 03, of what Rs holds.
+// The amount of kind 03: the lowest eight bits of what Rs holds.
 fn register_amount_of(rs: u32) -> u32
     ensures { λ r. ⌜ r ≡ register-amount rs ⌝ }
 {
-    rs
+    rs % 256
 }
 
 pub fn shift_by_register(m: Machine, next: Machine, d: RegisterShiftFields, setup: Setup) -> Stepped

@@ -16,6 +16,12 @@ pub fn machine(registers: &[(usize, u32)]) -> Machine {
     machine
 }
 
+pub fn with_flags(registers: &[(usize, u32)], nzcv: [bool; 4]) -> Machine {
+    let mut machine = machine(registers);
+    [machine.n, machine.z, machine.c, machine.v] = nzcv;
+    machine
+}
+
 pub fn waiting(conditions: &[u8]) -> Waiting {
     Waiting::new(conditions).unwrap()
 }
