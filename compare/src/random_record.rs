@@ -105,6 +105,15 @@ pub fn fitting(prng: &mut Prng, kind: u8, waiting: usize) -> Option<Vec<u8>> {
     None
 }
 
+/// As `fitting`, of a kind that fits often where nothing waits.
+pub fn of_kind(prng: &mut Prng, kind: u8) -> Vec<u8> {
+    loop {
+        if let Some(record) = fitting(prng, kind, 0) {
+            return record;
+        }
+    }
+}
+
 fn register(prng: &mut Prng, common: u8) -> u8 {
     match prng.below(8) {
         0 => 13,

@@ -5,6 +5,7 @@ mod ends;
 mod fixed;
 mod large;
 mod record;
+mod reversals;
 pub mod scene;
 mod shifts;
 mod sights;
@@ -23,6 +24,8 @@ pub const SEED: u64 = 0x57E9_2026;
 const STEPS: u64 = 2_000_000;
 /// Of kind 03 alone.
 const SHIFTS: u64 = 250_000;
+/// Of RBIT alone.
+const REVERSALS: u64 = 200_000;
 /// With memory of any length, also at its limit, which takes long to compare.
 const LARGE: u64 = 4_000;
 
@@ -40,6 +43,9 @@ pub fn run(least: u64, seed: u64) -> Result<String, String> {
     }
     for _ in 0..LARGE {
         comparison.put(&large::question(&mut prng, &stock))?;
+    }
+    for _ in 0..REVERSALS {
+        comparison.put(&reversals::question(&mut prng))?;
     }
     let (tally, count) = (comparison.tally, comparison.sides.count());
     match tally.gaps().into_iter().chain(fewer(count, least)).collect::<Vec<_>>() {

@@ -17,11 +17,7 @@ const NAMES: [&str; 4] = ["LSL", "LSR", "ASR", "ROR"];
 const LEAST: u64 = 1_000;
 
 pub fn question(prng: &mut Prng) -> Question {
-    let record = loop {
-        if let Some(record) = random_record::fitting(prng, KIND, 0) {
-            break record;
-        }
-    };
+    let record = random_record::of_kind(prng, KIND);
     let mut scene = scene(prng);
     scene.set(record[5], rs(prng));
     spoil::question(prng, record, scene)

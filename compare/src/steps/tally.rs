@@ -1,6 +1,7 @@
 //! How the steps ended, and whether all that paper 01 lets occur did.
 
 use super::ends::Ends;
+use super::reversals::Reversals;
 use super::shifts::Shifts;
 use super::sights::{Look, SIGHTS};
 use crate::cover::Cover;
@@ -30,6 +31,7 @@ pub struct Tally {
     sizes: [u32; 4],
     seen: [u64; SIGHTS.len()],
     shifts: Shifts,
+    reversals: Reversals,
     ends: Ends,
     shapes: Shapes,
     images: ImageBytes,
@@ -51,6 +53,7 @@ impl Tally {
             sizes: [0; 4],
             seen: [0; SIGHTS.len()],
             shifts: Shifts::new(),
+            reversals: Reversals::new(),
             ends: Ends::new(),
             shapes: Shapes::new(stock),
             images: ImageBytes::new(),
@@ -96,6 +99,7 @@ impl Tally {
         }
         self.done[kind][op] += 1;
         self.shifts.see(&look);
+        self.reversals.see(&look);
         if let (0x0D..=0x10, Some(class)) = (kind, class) {
             self.lengths.see(class, 1);
         }
@@ -140,8 +144,9 @@ impl Tally {
             gaps.push("memory was never one byte over its limit".to_string());
         }
         gaps.extend(self.lengths.gap());
-        let (shifts, ends) = (self.shifts.gaps(), self.ends.gaps());
-        [gaps, shifts, ends, self.shapes.gaps(), self.images.gaps()].concat()
+        gaps.extend(self.shifts.gaps());
+        gaps.extend(self.reversals.gaps());
+        [gaps, self.ends.gaps(), self.shapes.gaps(), self.images.gaps()].concat()
     }
 }
 
@@ -178,7 +183,8 @@ impl fmt::Display for Tally {
             .collect();
         writeln!(f, "among them: {}", seen.join(", "))?;
         writeln!(f, "{}; one byte over its limit: {}", self.lengths, self.over)?;
-        write!(f, "{}{}{}{}", self.shifts, self.ends, self.shapes, self.images)
+        write!(f, "{}{}", self.shifts, self.reversals)?;
+        write!(f, "{}{}{}", self.ends, self.shapes, self.images)
     }
 }
 

@@ -1,17 +1,15 @@
--- Leading zeros counted from the top, bytes exchanged, and a reversal with one bit more.
-use Prim.Native.Nat.{ℕ, zero, suc, _+_, _-_, _*_, _/_, _%_, _^_, _≤_, _<_}
-use mathlib.Core.Path.{_≡_, sym, ap, _∙_}
+-- Leading zeros counted from the top, and bytes exchanged.
+use Prim.Native.Nat.{ℕ, zero, suc, _+_, _*_, _/_, _%_, _^_, _≤_, _<_}
+use mathlib.Core.Path.{_≡_, sym, _∙_}
 use native.Mathlib.Omega.{arith}
-use native.Mathlib.Nat.{pow-suc, sub-zero}
-use native.Mathlib.Numerals.{add-one}
+use native.Mathlib.Nat.{pow-suc}
 use borrow.Author.Tests.{leb-true, leb-false}
 use lib.Bits.{bitAnd, bitOr, and-mask, and-block, or-block, or-shifted}
 use lib.Count.{leadingZeros, leading-unique}
 use lib.Pow.{split}
-use Rattle.word.specs.Word.{bit, one-if, from-bits}
+use Rattle.word.specs.Word.{bit}
 use Rattle.word.proofs.Cases.{cases, yes-or-no}
 use Rattle.word.proofs.Numbers.{highest}
-use Rattle.word.proofs.Bits.{from-bits-low, from-bits-same, one-if-bit}
 use Rattle.reverse.specs.Reverse.{clear-from}
 
 -- the m bits that x has below its leading zeros
@@ -43,14 +41,3 @@ pub joined : (a b c d : ℕ) → b < 2 ^ 8 → c < 2 ^ 8 → d < 2 ^ 8
     → bitOr (a * 2 ^ 8 * 2 ^ 16 + c * 2 ^ 8) (b * 2 ^ 16 + d) ≡ (a * 2 ^ 8 + b) * 2 ^ 16 + (c * 2 ^ 8 + d)
 joined a b c d h l m =
     rw (or-block 16 (a * 2 ^ 8) b (c * 2 ^ 8) d (omega arith) (omega arith), or-shifted a 8 b h, or-shifted c 8 d m)
-
--- the next bit of x goes in below
-pub reversed-more : (x r n : ℕ) → r ≡ from-bits n (λ i. bit (n - 1 - i) x)
-    → r * 2 + x / 2 ^ n % 2 ≡ from-bits (n + 1) (λ i. bit (n + 1 - 1 - i) x)
-reversed-more x r n e =
-    let same = from-bits-same n (λ i. bit (n - 1 - i) x) (λ i. bit (n - suc i) x) (λ i l. let f : n - 1 - i ≡ n - suc i = omega arith in rw f) in
-    let whole = from-bits-same (suc n) (λ i. bit (n - i) x) (λ i. bit (n + 1 - 1 - i) x) (λ i l. let f : n - i ≡ n + 1 - 1 - i = omega arith in rw f) in
-    let here : one-if (bit (n - 0) x) ≡ x / 2 ^ n % 2 = rw (sub-zero n) (one-if-bit n x) in
-    let low = from-bits-low n (λ i. bit (n - i) x) in
-    let below : r * 2 + x / 2 ^ n % 2 ≡ from-bits (suc n) (λ i. bit (n - i) x) = rw (low, here, ← same, ← e) in
-    below ∙ whole ∙ ap (λ (m : ℕ). from-bits m (λ i. bit (n + 1 - 1 - i) x)) (sym (add-one n))

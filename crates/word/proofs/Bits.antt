@@ -113,19 +113,6 @@ from-bits-own (suc n) x =
 pub by-bits : (n x : ℕ) (at : ℕ → Bool) → x < 2 ^ n → ((i : ℕ) → i < n → bit i x ≡ at i) → x ≡ from-bits n at
 by-bits n x at h e = sym (mod-eq-of-lt h) ∙ sym (from-bits-own n x) ∙ from-bits-same n (λ i. bit i x) at e
 
--- one bit more, at the bottom
-pub from-bits-low : (n : ℕ) (at : ℕ → Bool) → from-bits (suc n) at ≡ from-bits n (λ i. at (suc i)) * 2 + one-if (at 0)
-from-bits-low zero at = omega arith
-from-bits-low (suc n) at = rw (from-bits-low n at, pow-suc 2 n) (omega arith)
-
-one-if-times : (b : Bool) (p : ℕ) → one-if b * p ≤ p
-one-if-times true p = omega arith
-one-if-times false p = omega arith
-
-pub from-bits-lt : (n : ℕ) (at : ℕ → Bool) → from-bits n at < 2 ^ n
-from-bits-lt zero at = omega arith
-from-bits-lt (suc n) at = omega (arith, from-bits-lt n at, pow-suc 2 n, one-if-times (at n) (2 ^ n))
-
 -- ---- masks
 -- the mask of one bit
 pub and-bit : (x i : ℕ) → bitAnd x (2 ^ i) ≡ x / 2 ^ i % 2 * 2 ^ i
