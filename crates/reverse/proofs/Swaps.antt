@@ -83,9 +83,9 @@ narrow k (suc mask) e =
 pub swap-bit : (k mask x : ℕ) → mask * (2 ^ k + 1) ≡ 2 ^ 32 - 1
     → (i : ℕ) → i < 32 → bit i (bitOr (bitAnd x mask * 2 ^ k % 2 ^ 32) (bitAnd (x / 2 ^ k) mask)) ≡ bit (bitXor i k) x
 swap-bit k mask x e i h =
-    let one = 2 ^ k + 1 in
-    let d : (2 ^ 32 - 1) / one ≡ mask = ap (λ (n : ℕ). n / one) (sym e) ∙ mul-div-cancel mask (omega arith) in
-    let r : (2 ^ 32 - 1) % one ≡ 0 = ap (λ (n : ℕ). n % one) (sym e) ∙ mul-mod-left mask one in
+    let divisor = 2 ^ k + 1 in
+    let d : (2 ^ 32 - 1) / divisor ≡ mask = ap (λ (n : ℕ). n / divisor) (sym e) ∙ mul-div-cancel mask (omega arith) in
+    let r : (2 ^ 32 - 1) % divisor ≡ 0 = ap (λ (n : ℕ). n % divisor) (sym e) ∙ mul-mod-left mask divisor in
     let all : all-below 32 (crosses k mask) ≡ true = rw (r, d) at (one-below 32 quotient-crosses quotients k (narrow k mask e)) in
     crossed k mask x i h (one-below 32 (crosses k mask) all i h)
 
