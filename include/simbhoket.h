@@ -7,14 +7,14 @@
 #include <stdint.h>
 
 /* The number that paper 01 gives to bytes that must be one record and no more, where so many conditions wait:
-   0, 2 (no record), 3 (restricted form) or 4 (wrong spot in a block), the lowest that applies. */
+   0, 2 (no record), 3 (restricted form; a filler, which is never stepped alone) or 4 (wrong spot in a block), the lowest that applies. */
 uint32_t simbhoket_judge(const uint8_t *record, size_t record_length, uint32_t waiting);
 
 /* The record at a place of a listing: its listing bytes plus 2^32 times its machine bytes; 0 where there is none. */
 uint64_t simbhoket_measure(const uint8_t *listing, size_t listing_length, size_t place);
 
 /* Where the record goes that the bytes are, standing at an address: 0 to the next record; 1 plus 2^32 times the target of a
-   direct branch; 2 where a register or memory says; 3 where the bytes are no record. */
+   direct branch; 2 where a register or memory says; 3 where the bytes are no record; 4 of a filler, which goes nowhere. */
 uint64_t simbhoket_way(const uint8_t *record, size_t record_length, uint32_t address);
 
 /* A machine's image is 74 bytes: R0 to R15 as little-endian words, N Z C V Q a byte each (0 or 1), a count 0 to 4 of waiting

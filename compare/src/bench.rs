@@ -28,6 +28,7 @@ pub fn run() -> Result<String, String> {
         steps(&stream)?,
         listings::branches()?,
         listings::plain()?,
+        listings::fillers()?,
         runs::long()?,
         runs::all_samples()?,
     ];

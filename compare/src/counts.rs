@@ -23,8 +23,15 @@ impl<const SORTS: usize> Counts<SORTS> {
 
     /// The sorts that came up fewer times than the least.
     pub fn gaps(&self, least: u64) -> Vec<String> {
-        let few = self.names.iter().zip(self.counts).filter(|&(_, count)| count < least);
-        few.map(|(name, count)| format!("{}: {name} {count} times", self.title)).collect()
+        self.gaps_of(least, |_| true)
+    }
+
+    /// Of the sorts that can come up; of the others, those that did.
+    pub fn gaps_of(&self, least: u64, can: impl Fn(usize) -> bool) -> Vec<String> {
+        let all = self.names.iter().zip(self.counts).enumerate();
+        let few =
+            all.filter(|&(sort, (_, count))| if can(sort) { count < least } else { count > 0 });
+        few.map(|(_, (name, count))| format!("{}: {name} {count} times", self.title)).collect()
     }
 }
 

@@ -24,6 +24,7 @@ mod stock;
 mod table;
 mod texts;
 mod unfit;
+mod walk;
 mod worked;
 
 use std::process::ExitCode;

@@ -1,4 +1,4 @@
-//! Records at random: mostly as paper 01's table has them, and damage to them.
+//! Records at random: mostly as paper 01's table and order 1 of paper 02 have them, and damage to them.
 
 use crate::prng::Prng;
 
@@ -23,7 +23,7 @@ enum Field {
 use Field::*;
 
 /// The bodies of the table, from kind 01.
-const BODIES: [&[Field]; 21] = [
+const BODIES: [&[Field]; 23] = [
     &[Below(16), Form, Register, Register, Register, Below(5), Below(33)],
     &[Below(16), Form, Register, Register, Constant],
     &[Below(4), Form, Register, Register, Register],
@@ -45,9 +45,12 @@ const BODIES: [&[Field]; 21] = [
     &[Below(2), Form, Below(8), Below(128)],
     &[Form, Below(15), Below(5), Below(8)],
     &[Form],
+    &[Below(2), Form, Register, Register],
+    &[Number(65_536)],
 ];
 
-/// Accesses, and what may name R13 and R15, twice as often as the others.
+/// Accesses, and what may name R13 and R15, twice as often as the others. Kinds 16 and 17 are put by
+/// questions of their own.
 fn kind(prng: &mut Prng) -> u8 {
     let twice = [0x01, 0x0D, 0x0E, 0x0F, 0x10];
     match prng.below(26) {
@@ -56,13 +59,14 @@ fn kind(prng: &mut Prng) -> u8 {
     }
 }
 
-/// A record of any kind.
+/// A record of any kind of paper 01.
 pub fn record(prng: &mut Prng) -> Vec<u8> {
     let kind = kind(prng);
     record_of(prng, kind)
 }
 
-fn record_of(prng: &mut Prng, kind: u8) -> Vec<u8> {
+/// Of a kind, as it falls.
+pub fn record_of(prng: &mut Prng, kind: u8) -> Vec<u8> {
     let mut record = vec![kind];
     // Rules on two fields speak of equal registers, which are rare among 16.
     let common = prng.below(16) as u8;
@@ -168,6 +172,8 @@ pub fn bind(record: &mut [u8]) {
         [0x0B, 0, form, _, rn, ..] => (*form, *rn) = (*form & 2, 0),
         [0x11, 1, form, condition, ..] => (*form, *condition) = (2, 14),
         [0x12 | 0x13, _, form, ..] | [0x14, form, ..] => *form = 0,
+        [0x16, _, form, ..] => *form = 2,
+        [0x17, ..] => (),
         [0x15, form] | [_, _, form, ..] => *form &= 2,
         _ => (),
     }

@@ -12,15 +12,18 @@ use answers::Comparison;
 
 pub fn run(least: u64) -> Result<String, String> {
     let stock = stock::stock();
-    let mut comparison = Comparison::new(&stock);
+    let later = [stock::tables(), stock::fillers()].concat();
+    let mut comparison = Comparison::new(&[&stock[..], &later].concat());
     good(&stock)?;
+    good(&stock::tables())?;
     sweep(&mut comparison, &stock)?;
+    sweep_later(&mut comparison, &stock, &later)?;
     let tally = comparison.tally();
     match tally.gaps().into_iter().chain(fewer(tally.strings(), least)).collect::<Vec<_>>() {
         gaps if gaps.is_empty() => {
             Ok(format!("{tally}records: {} compared, no difference", tally.strings()))
         }
-        gaps => Err(format!("{tally}records: not as paper 01 has it: {}", gaps.join("; "))),
+        gaps => Err(format!("{tally}records: not as the papers have it: {}", gaps.join("; "))),
     }
 }
 
@@ -46,4 +49,16 @@ fn sweep(comparison: &mut Comparison, stock: &[Vec<u8>]) -> Outcome {
     numbers::branches(comparison)?;
     numbers::small(comparison)?;
     random::records(comparison)
+}
+
+/// Order 1 of paper 02: the same around its records.
+fn sweep_later(comparison: &mut Comparison, stock: &[Vec<u8>], later: &[Vec<u8>]) -> Outcome {
+    sweeps::single_bytes(comparison, later)?;
+    sweeps::lengths(comparison, later)?;
+    sweeps::two_bytes(comparison, &stock::samples(later))?;
+    sweeps::later_kinds(comparison, stock, later)?;
+    sweeps::bodies(comparison)?;
+    sweeps::one_listing(comparison, &[stock, later].concat())?;
+    numbers::fillers(comparison)?;
+    numbers::table_branches(comparison)
 }

@@ -9,6 +9,7 @@ pub mod scene;
 mod sights;
 mod spoil;
 mod start;
+mod tables;
 mod tally;
 mod trace;
 pub mod writer;
@@ -19,6 +20,7 @@ use crate::question::run::{Answer, Question};
 use crate::question::Sides;
 use crate::Outcome;
 use demand::Demand;
+use tables::tally::Tables;
 use tally::Tally;
 
 pub const SEED: u64 = 0x5209_2026;
@@ -36,26 +38,30 @@ pub fn run(least: u64, seed: u64) -> Result<String, String> {
     for _ in 0..SCENES {
         comparison.scene(&mut prng)?;
     }
-    let Comparison { sides, tally, demand } = comparison;
+    tables::scenes(&mut comparison, &mut prng)?;
+    let Comparison { sides, tally, tables, demand } = comparison;
     let count = sides.count();
     let few = fewer(count, least).into_iter().collect();
-    match [tally.gaps(), demand.gaps(), few].concat() {
+    let told = format!("{tally}{tables}{demand}");
+    match [tally.gaps(), tables.gaps(), demand.gaps(), few].concat() {
         gaps if gaps.is_empty() => {
-            Ok(format!("{tally}{demand}runs: {count} compared, no difference (seed {seed})"))
+            Ok(format!("{told}runs: {count} compared, no difference (seed {seed})"))
         }
-        gaps => Err(format!("{tally}{demand}runs: not all was tried: {}", gaps.join("; "))),
+        gaps => Err(format!("{told}runs: not all was tried: {}", gaps.join("; "))),
     }
 }
 
 pub struct Comparison {
     sides: Sides<Question>,
     tally: Tally,
+    tables: Tables,
     demand: Demand,
 }
 
 impl Comparison {
     fn new(seed: u64) -> Comparison {
-        Comparison { sides: Sides::new("run", seed), tally: Tally::new(), demand: Demand::new() }
+        let (tally, tables, demand) = (Tally::new(), Tables::new(), Demand::new());
+        Comparison { sides: Sides::new("run", seed), tally, tables, demand }
     }
 
     /// A program, its start, and runs with several budgets.

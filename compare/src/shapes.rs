@@ -1,8 +1,9 @@
-//! What must have been among the bytes that are put as a record, with the number that 01 gives them.
+//! What must have been among the bytes that are put as a record, with the number that 01 and order 1
+//! of 02 give them.
 
 use crate::counts::Counts;
 use crate::cover::Cover;
-use crate::table::{self, KINDS, LENGTHS, OPS, REGISTERS};
+use crate::table::{self, FILLER, KINDS, LENGTHS, OPS, REGISTERS};
 use second::judge::judge;
 use std::collections::BTreeSet;
 use std::fmt;
@@ -19,7 +20,7 @@ const TEQ: u8 = 15;
 /// A name, the number, and whether bytes are such, none of which is refused for anything else.
 type Refusal = (&'static str, u32, fn(&[u8]) -> bool);
 
-const REFUSALS: [Refusal; 16] = [
+const REFUSALS: [Refusal; 29] = [
     ("no bytes", MALFORMED, |bytes| bytes.is_empty()),
     ("CBZ with S", MALFORMED, |bytes| compare_branch_with_s(bytes, 0)),
     ("CBNZ with S", MALFORMED, |bytes| compare_branch_with_s(bytes, 1)),
@@ -38,6 +39,21 @@ const REFUSALS: [Refusal; 16] = [
     ("ADD to R13 of R13 and R15", RESTRICTED, |bytes| {
         matches!(bytes, [0x01, 0, _, 13, 13, 15, 0, 0..=3])
     }),
+    ("kind 16 with an op above 1", MALFORMED, |bytes| {
+        matches!(bytes, [0x16, 2..=255, 2, 0..=12, 0..=12])
+    }),
+    ("TBB with another form", MALFORMED, |bytes| table_branch_with_form(bytes, 0)),
+    ("TBH with another form", MALFORMED, |bytes| table_branch_with_form(bytes, 1)),
+    ("TBB with Rn 13", RESTRICTED, |bytes| matches!(bytes, [0x16, 0, 2, 13, 0..=12])),
+    ("TBH with Rn 13", RESTRICTED, |bytes| matches!(bytes, [0x16, 1, 2, 13, 0..=12])),
+    ("TBB with Rm 13", RESTRICTED, |bytes| matches!(bytes, [0x16, 0, 2, 0..=12, 13])),
+    ("TBH with Rm 13", RESTRICTED, |bytes| matches!(bytes, [0x16, 1, 2, 0..=12, 13])),
+    ("TBB with Rm 15", RESTRICTED, |bytes| matches!(bytes, [0x16, 0, 2, 0..=12 | 15, 15])),
+    ("TBH with Rm 15", RESTRICTED, |bytes| matches!(bytes, [0x16, 1, 2, 0..=12 | 15, 15])),
+    ("filler of 0", MALFORMED, |bytes| bytes == [FILLER, 0, 0]),
+    ("odd filler", MALFORMED, |bytes| matches!(bytes, [FILLER, low, _] if low % 2 == 1)),
+    ("filler of 65,535", MALFORMED, |bytes| bytes == [FILLER, 0xFF, 0xFF]),
+    ("filler alone", RESTRICTED, |bytes| matches!(bytes, [FILLER, _, _])),
 ];
 
 fn usual(registers: &[u8]) -> bool {
@@ -46,6 +62,10 @@ fn usual(registers: &[u8]) -> bool {
 
 fn compare_branch_with_s(bytes: &[u8], op: u8) -> bool {
     matches!(*bytes, [0x13, its, 1, 0..=7, offset @ 0..=126] if its == op && offset % 2 == 0)
+}
+
+fn table_branch_with_form(bytes: &[u8], op: u8) -> bool {
+    matches!(*bytes, [0x16, its, form, 0..=12, 0..=12] if its == op && form != 2)
 }
 
 fn one_half(bytes: &[u8], op: u8) -> bool {
@@ -128,7 +148,7 @@ impl Shapes {
             return;
         }
         let only = match bytes.get(..LENGTHS[row]) {
-            Some(record) => judge(record, 0) == DONE,
+            Some(record) => judge(record, 0) == best(record),
             None => self.fronts.contains(bytes),
         };
         if only {
@@ -144,7 +164,8 @@ impl Shapes {
             return;
         }
         let possible = table::possible_forms(row + 1, op) >> form & 1 == 1;
-        let only = || judge(&with(bytes, table::form_place(bytes), form ^ 1), 0) == DONE;
+        let done = |place: usize| judge(&with(bytes, place, form ^ 1), 0) == DONE;
+        let only = || table::form_place(bytes).map_or(false, done);
         if possible && number == DONE || !possible && number == MALFORMED && only() {
             self.forms.see(row, column);
         }
@@ -169,6 +190,14 @@ impl Shapes {
         let covers = [&self.lengths, &self.forms, &self.registers];
         let never = covers.into_iter().filter_map(Cover::gap);
         never.chain(self.refused.gaps(1)).collect()
+    }
+}
+
+/// The lowest number that a record of its kind has, stepped alone.
+fn best(record: &[u8]) -> u32 {
+    match record[0] {
+        FILLER => RESTRICTED,
+        _ => DONE,
     }
 }
 

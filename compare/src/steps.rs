@@ -2,6 +2,7 @@
 
 mod aim;
 mod ends;
+mod fillers;
 mod fixed;
 mod large;
 mod record;
@@ -10,13 +11,15 @@ pub mod scene;
 mod shifts;
 mod sights;
 mod spoil;
+mod table_sights;
+mod tables;
 mod tally;
 
 use crate::counts::fewer;
 use crate::prng::Prng;
 use crate::question::step::Question;
 use crate::question::Sides;
-use crate::stock::{stock, Stock};
+use crate::stock::{self, stock, Stock};
 use crate::Outcome;
 use tally::Tally;
 
@@ -28,10 +31,15 @@ const SHIFTS: u64 = 250_000;
 const REVERSALS: u64 = 200_000;
 /// With memory of any length, also at its limit, which takes long to compare.
 const LARGE: u64 = 4_000;
+/// Of kind 16 alone.
+const TABLES: u64 = 250_000;
+/// Of kind 17 alone.
+const FILLERS: u64 = 30_000;
 
 pub fn run(least: u64, seed: u64) -> Result<String, String> {
     let (mut prng, stock) = (Prng::new(seed), stock());
-    let tally = Tally::new(&stock);
+    let later = [stock::tables(), stock::fillers()].concat();
+    let tally = Tally::new(&[&stock[..], &later].concat());
     let mut comparison = Comparison { sides: Sides::new("step", seed), tally };
     fixed::images(&mut comparison)?;
     fixed::records(&mut comparison, &stock)?;
@@ -47,12 +55,19 @@ pub fn run(least: u64, seed: u64) -> Result<String, String> {
     for _ in 0..REVERSALS {
         comparison.put(&reversals::question(&mut prng))?;
     }
+    fixed::records(&mut comparison, &later)?;
+    for _ in 0..TABLES {
+        comparison.put(&tables::question(&mut prng))?;
+    }
+    for _ in 0..FILLERS {
+        comparison.put(&fillers::question(&mut prng))?;
+    }
     let (tally, count) = (comparison.tally, comparison.sides.count());
     match tally.gaps().into_iter().chain(fewer(count, least)).collect::<Vec<_>>() {
         gaps if gaps.is_empty() => {
             Ok(format!("{tally}steps: {count} compared, no difference (seed {seed})"))
         }
-        gaps => Err(format!("{tally}steps: not as paper 01 has it: {}", gaps.join("; "))),
+        gaps => Err(format!("{tally}steps: not as the papers have it: {}", gaps.join("; "))),
     }
 }
 

@@ -4,8 +4,12 @@
 mod access;
 mod compute;
 mod control;
+mod tables;
 
+use crate::table::FILLER;
 use std::collections::BTreeSet;
+
+pub use tables::{fillers, tables};
 
 pub type Stock = Vec<Vec<u8>>;
 
@@ -25,8 +29,8 @@ pub fn samples(stock: &[Vec<u8>]) -> Stock {
 }
 
 fn sort(record: &[u8]) -> (u8, u8, u8, u8, u8) {
-    // IT and NOP have no op and no registers
-    if record[0] >= 0x14 {
+    // IT, NOP and fillers have no op and no registers
+    if matches!(record[0], 0x14 | 0x15 | FILLER) {
         return (record[0], 0, 0, 0, 0);
     }
     let registers = &record[3..record.len().min(6)];

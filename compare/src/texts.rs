@@ -35,6 +35,7 @@ pub fn run(least: u64, seed: u64) -> Result<String, String> {
     fixed::endless(&mut comparison)?;
     fixed::steps(&mut comparison)?;
     fixed::places(&mut comparison)?;
+    fixed::fillers(&mut comparison)?;
     let (mut random, mut dear) = (0, 0);
     while random < LISTINGS {
         let listing = listing::some(&mut prng);

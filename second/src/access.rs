@@ -1,5 +1,6 @@
-//! Kinds 0D to 10. The order of the tests is that of their numbers: alignment (5), memory (6), then
-//! what goes to registers (7). Stores come last, for "a refused step writes nothing".
+//! Kinds 0D to 10, and the entry that kind 16 reads. The order of the tests is that of their
+//! numbers: alignment (5), memory (6), then what goes to registers (7). Stores come last, for "a
+//! refused step writes nothing".
 
 use crate::machine::{Machine, Register, PC};
 use crate::memory::Memory;
@@ -135,4 +136,23 @@ fn multiple(
         at += 4;
     }
     Ok(())
+}
+
+/// The entry that kind 16 reads: byte Rm of the table at Rn (TBB), or half Rm (TBH). "TBH may read its
+/// halfword unaligned (so the manual), and Rn 15 is read as address + 4", bit 1 not cleared (S8).
+pub fn table_entry(
+    now: &Machine,
+    memory: &Memory,
+    halves: bool,
+    rn: Register,
+    rm: Register,
+) -> Result<u32, Number> {
+    let table = now.operand(rn);
+    if halves {
+        let at = memory.find(table.wrapping_add(now.get(rm) << 1), 2)?;
+        Ok(u32::from(memory.half(at)))
+    } else {
+        let at = memory.find(table.wrapping_add(now.get(rm)), 1)?;
+        Ok(u32::from(memory.byte(at)))
+    }
 }

@@ -3,7 +3,7 @@
 use crate::number::{Number, DONE, MISPLACED, NO_LANDING, UNFIT};
 use crate::read::read;
 use crate::record::{Action, Control, Record};
-use crate::rules::refusal;
+use crate::rules::{filler_may_follow, refusal};
 use crate::waiting::Waiting;
 
 const LIMIT: usize = 65_536;
@@ -17,12 +17,12 @@ pub struct Entry {
     pub waiting: Waiting,
 }
 
-/// An accepted listing. All machine lengths are even, so a record has its slot at half its distance
-/// from the base.
+/// An accepted listing. Fillers have no entry; the addresses of the entries rise, and are searched by
+/// halves, for fillers can set them far apart.
 pub struct Layout {
-    base: u32,
     end: u32,
-    slots: Vec<Option<Entry>>,
+    addresses: Vec<u32>,
+    entries: Vec<Entry>,
 }
 
 impl Layout {
@@ -30,15 +30,14 @@ impl Layout {
         self.end
     }
 
+    /// None at a filler and inside one, and at any address that is not a record's.
     pub fn at(&self, address: u32) -> Option<&Entry> {
-        let distance = address.checked_sub(self.base)?;
-        if distance % 2 != 0 {
-            return None;
-        }
-        self.slots.get(distance as usize / 2)?.as_ref()
+        let index = self.addresses.binary_search(&address).ok()?;
+        self.entries.get(index)
     }
 
-    /// "Landing places are addresses of records outside all blocks, and the end address."
+    /// "Landing places are addresses of records outside all blocks, and the end address." "A filler is
+    /// no landing place".
     fn lands(&self, address: u32) -> bool {
         address == self.end || self.at(address).map_or(false, |entry| entry.waiting.is_empty())
     }
@@ -51,9 +50,11 @@ struct Jump {
 }
 
 /// What reading all records gives: `end` is not taken modulo 2^32.
+#[derive(Default)]
 struct Walk {
     end: u64,
-    slots: Vec<Option<Entry>>,
+    addresses: Vec<u32>,
+    entries: Vec<Entry>,
     jumps: Vec<Jump>,
 }
 
@@ -75,7 +76,7 @@ pub fn layout(listing: &[u8], base: u32) -> Result<Layout, (Number, usize)> {
     if walk.end > HIGHEST_END {
         return Err((UNFIT, listing.len()));
     }
-    let layout = Layout { base, end: walk.end as u32, slots: walk.slots };
+    let layout = Layout { end: walk.end as u32, addresses: walk.addresses, entries: walk.entries };
     match walk.jumps.iter().find(|jump| !layout.lands(jump.target)) {
         Some(jump) => Err((NO_LANDING, jump.place)),
         None => Ok(layout),
@@ -84,17 +85,19 @@ pub fn layout(listing: &[u8], base: u32) -> Result<Layout, (Number, usize)> {
 
 /// "The check reads all records first and reports 2, 3, 4 at the lowest place, the lowest number
 /// there; blocks give the waiting conditions for rule 4, and a block not finished at the end is 4 at
-/// place = length."
+/// place = length." A filler may stand "first in the listing".
 fn walk(listing: &[u8], base: u32) -> Result<Walk, (Number, usize)> {
-    let mut walk = Walk { end: u64::from(base), slots: Vec::new(), jumps: Vec::new() };
+    let mut walk = Walk { end: u64::from(base), ..Walk::default() };
     let mut waiting = Waiting::NONE;
+    let mut filler_may_stand = true;
     let mut place = 0;
     while place < listing.len() {
         let (record, length) = read(listing, place).map_err(|number| (number, place))?;
-        if let Some(number) = refusal(&record, waiting.len()) {
+        if let Some(number) = fault(&record, waiting.len(), filler_may_stand) {
             return Err((number, place));
         }
         walk.add(Entry { place, record, waiting });
+        filler_may_stand = filler_may_follow(&record, waiting.len());
         waiting = after(&record, waiting);
         place += length;
     }
@@ -105,17 +108,29 @@ fn walk(listing: &[u8], base: u32) -> Result<Walk, (Number, usize)> {
     }
 }
 
+/// Number 3 or 4 of a record in its spot. "an ill-placed filler is 4 at the filler's place", and no
+/// filler is 3 here (S16).
+fn fault(record: &Record, waiting: usize, filler_may_stand: bool) -> Option<Number> {
+    match record.action {
+        Action::Filler { .. } if filler_may_stand => None,
+        Action::Filler { .. } => Some(MISPLACED),
+        _ => refusal(record, waiting),
+    }
+}
+
 impl Walk {
     fn add(&mut self, entry: Entry) {
         // Past 2^32 the address is of no account, for the end is then too high.
-        if let Some(target) = entry.record.direct_target(self.end as u32) {
+        let address = self.end as u32;
+        self.end += u64::from(entry.record.machine_length());
+        if let Action::Filler { .. } = entry.record.action {
+            return;
+        }
+        if let Some(target) = entry.record.direct_target(address) {
             self.jumps.push(Jump { place: entry.place, target });
         }
-        self.slots.push(Some(entry));
-        if entry.record.four_bytes {
-            self.slots.push(None);
-        }
-        self.end += u64::from(entry.record.machine_length());
+        self.addresses.push(address);
+        self.entries.push(entry);
     }
 }
 

@@ -8,9 +8,9 @@ pub const DONE: Number = 0;
 pub const UNFIT: Number = 1;
 /// "record short, trailing bytes, unknown kind, field not as above"
 pub const MALFORMED: Number = 2;
-/// "restricted form"
+/// "restricted form"; order 1: "stepping a filler alone"
 pub const RESTRICTED: Number = 3;
-/// "wrong spot in a block"
+/// "wrong spot in a block"; order 1: "an ill-placed filler"
 pub const MISPLACED: Number = 4;
 /// "unaligned access not permitted"
 pub const UNALIGNED: Number = 5;
@@ -18,7 +18,8 @@ pub const UNALIGNED: Number = 5;
 pub const OUTSIDE: Number = 6;
 /// "value for R15 by LDR, LDM, BX or BLX has bit 0 clear, or value for R13 is not a multiple of 4"
 pub const BAD_VALUE: Number = 7;
-/// "R15 is neither a record's address nor the end, or the waiting list differs from the layout's"
+/// "R15 is neither a record's address nor the end, or the waiting list differs from the layout's";
+/// order 1: "R15 at a filler"
 pub const STRAY: Number = 8;
 /// "direct branch to a non-landing place"
 pub const NO_LANDING: Number = 9;

@@ -7,8 +7,8 @@ use crate::waiting::{Condition, AL};
 use crate::word;
 
 /// "One byte of kind (hex), then a body whose length the kind fixes", from kind 01. Kinds 14 and 15
-/// have no op byte (R1).
-const BODY: [usize; 21] = [7, 8, 5, 6, 5, 4, 6, 6, 5, 7, 6, 5, 7, 6, 8, 6, 7, 3, 4, 4, 1];
+/// have no op byte (R1), kind 17 has its number alone (S4).
+const BODY: [usize; 23] = [7, 8, 5, 6, 5, 4, 6, 6, 5, 7, 6, 5, 7, 6, 8, 6, 7, 3, 4, 4, 1, 4, 2];
 
 const OPS: [Op; 16] = [
     Op::Add,
@@ -68,12 +68,22 @@ fn parse(bytes: &[u8]) -> Option<(Record, usize)> {
     let action = match kind {
         0x01..=0x0C => Action::Compute(compute(kind, body)?),
         0x0D..=0x10 => Action::Access(access(kind, body)?),
-        _ => Action::Control(control(kind, body)?),
+        0x11..=0x16 => Action::Control(control(kind, body)?),
+        _ => filler(body)?,
     };
-    let form = body[if kind < 0x14 { 1 } else { 0 }];
+    let form = form(kind, body);
     let record = Record { s: form & 1 == 1, four_bytes: form & 2 == 2, action };
     ensure(form <= 3 && s_fits(&record) && length_fits(&record))?;
     Some((record, 1 + length))
+}
+
+/// Behind the op, or first where there is none; a filler has none and is as with form 0.
+fn form(kind: u8, body: &[u8]) -> u8 {
+    match kind {
+        0x14 | 0x15 => body[0],
+        0x17 => 0,
+        _ => body[1],
+    }
 }
 
 fn ensure(holds: bool) -> Option<()> {
@@ -110,13 +120,15 @@ fn s_fits(record: &Record) -> bool {
     }
 }
 
-/// "Kinds 12, 13, 14 are 2 machine bytes, BL is 4"; else "the length is taken as given (house)".
+/// "Kinds 12, 13, 14 are 2 machine bytes, BL is 4", and so is kind 16 (S3); else "the length is taken
+/// as given (house)".
 fn length_fits(record: &Record) -> bool {
     match record.action {
         Action::Control(Control::BranchTo { .. })
         | Action::Control(Control::CompareBranch { .. })
         | Action::Control(Control::IfThen { .. }) => !record.four_bytes,
-        Action::Control(Control::Branch { links: true, .. }) => record.four_bytes,
+        Action::Control(Control::Branch { links: true, .. })
+        | Action::Control(Control::TableBranch { .. }) => record.four_bytes,
         _ => true,
     }
 }
@@ -284,6 +296,16 @@ fn control(kind: u8, body: &[u8]) -> Option<Control> {
             Some(Control::IfThen { condition: condition(first)?, count, elses })
         }
         (0x15, &[_]) => Some(Control::Nop),
+        (0x16, &[op, _, rn, rm]) => {
+            Some(Control::TableBranch { halves: one(op)?, rn: reg(rn)?, rm: reg(rm)? })
+        }
         _ => None,
     }
+}
+
+/// Order 1: "2 to 65,534 machine bytes, even (body: that number, 2 bytes)".
+fn filler(body: &[u8]) -> Option<Action> {
+    let bytes = u16::from_le_bytes(body.try_into().ok()?);
+    ensure(bytes >= 2 && bytes % 2 == 0)?;
+    Some(Action::Filler { bytes })
 }

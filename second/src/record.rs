@@ -159,7 +159,7 @@ pub enum Access {
     Multiple { op: Multiple, rn: Register, write_back: bool, list: u16 },
 }
 
-/// Kinds 11 to 15.
+/// Kinds 11 to 15, and kind 16 of order 1: TBB, and TBH, which reads halves.
 #[derive(Clone, Copy, PartialEq, Eq, Debug)]
 pub enum Control {
     Branch { links: bool, condition: Condition, offset: i32 },
@@ -167,16 +167,20 @@ pub enum Control {
     CompareBranch { nonzero: bool, rn: Register, offset: u8 },
     IfThen { condition: Condition, count: u8, elses: u8 },
     Nop,
+    TableBranch { halves: bool, rn: Register, rm: Register },
 }
 
+/// Kind 17 of order 1 is "a filler of 2 to 65,534 machine bytes, even".
 #[derive(Clone, Copy, PartialEq, Eq, Debug)]
 pub enum Action {
     Compute(Compute),
     Access(Access),
     Control(Control),
+    Filler { bytes: u16 },
 }
 
-/// "Form byte: bit 0 S, bit 1 set for 4 machine bytes, clear for 2".
+/// "Form byte: bit 0 S, bit 1 set for 4 machine bytes, clear for 2". A filler has no form byte (S4);
+/// both bits are clear in it.
 #[derive(Clone, Copy, PartialEq, Eq, Debug)]
 pub struct Record {
     pub s: bool,
@@ -185,11 +189,12 @@ pub struct Record {
 }
 
 impl Record {
+    /// By the form, or a filler's number (S5).
     pub fn machine_length(&self) -> u32 {
-        if self.four_bytes {
-            4
-        } else {
-            2
+        match self.action {
+            Action::Filler { bytes } => u32::from(bytes),
+            _ if self.four_bytes => 4,
+            _ => 2,
         }
     }
 
@@ -205,10 +210,11 @@ impl Record {
     }
 
     /// "A step takes its next address from a register or from memory just when .. its record is BX,
-    /// BLX, MOV or ADD with Rd 15, LDR with Rt 15, or a load of kind 10 with 15 in its list."
+    /// BLX, MOV or ADD with Rd 15, LDR with Rt 15, or a load of kind 10 with 15 in its list." Order 1:
+    /// "Kind 16 counts as taking its address from memory."
     pub fn takes_address(&self) -> bool {
         match self.action {
-            Action::Control(Control::BranchTo { .. }) => true,
+            Action::Control(Control::BranchTo { .. } | Control::TableBranch { .. }) => true,
             Action::Compute(Compute::Operate { op: Op::Mov | Op::Add, rd, .. }) => rd == PC,
             Action::Access(Access::Single { op: Single::Ldr, rt, .. }) => rt == PC,
             Action::Access(Access::Indexed { op: Single::Ldr, rt, .. }) => rt == PC,

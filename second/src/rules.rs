@@ -1,4 +1,4 @@
-//! "Restricted (3)" and "Block spots (4)".
+//! "Restricted (3)" and "Block spots (4)", and where a filler may stand.
 
 use crate::machine::{Register, LR, PC, SP};
 use crate::number::{Number, MISPLACED, RESTRICTED};
@@ -6,7 +6,8 @@ use crate::record::*;
 use crate::waiting::AL;
 use crate::word;
 
-/// Number 3 or 4, the lower first, for a record that was read.
+/// Number 3 or 4, the lower first, for a record that was read and is stepped alone, or for any
+/// record of a listing but a filler.
 pub fn refusal(record: &Record, waiting: usize) -> Option<Number> {
     if restricted(record) {
         Some(RESTRICTED)
@@ -17,11 +18,27 @@ pub fn refusal(record: &Record, waiting: usize) -> Option<Number> {
     }
 }
 
+/// Order 1: may a filler stand behind this record, with so many conditions waiting at it? "only after
+/// an unconditional B outside a block, after BX outside a block, after kind 16 outside a block, after
+/// another filler" (S13, S14). Such a record is neither an IT nor in a block, so the filler "can't be
+/// in a block" either (S15).
+pub fn filler_may_follow(record: &Record, waiting: usize) -> bool {
+    let leaves = match record.action {
+        Action::Control(Control::Branch { links, condition, .. }) => !links && condition == AL,
+        Action::Control(Control::BranchTo { links, .. }) => !links,
+        Action::Control(Control::TableBranch { .. }) | Action::Filler { .. } => true,
+        _ => false,
+    };
+    leaves && waiting == 0
+}
+
 fn restricted(record: &Record) -> bool {
     match &record.action {
         Action::Compute(compute) => compute_restricted(compute, record.s),
         Action::Access(access) => access_restricted(access),
         Action::Control(control) => control_restricted(control),
+        // "stepping a filler alone is 3"
+        Action::Filler { .. } => true,
     }
 }
 
@@ -128,6 +145,8 @@ fn control_restricted(control: &Control) -> bool {
         Control::BranchTo { links, rm } => links && rm == PC,
         // "IT with AL has no else."
         Control::IfThen { condition, elses, .. } => condition == AL && elses != 0,
+        // "Rn not 13, Rm not 13 or 15"
+        Control::TableBranch { rn, rm, .. } => rn == SP || special(rm),
         Control::Branch { .. } | Control::CompareBranch { .. } | Control::Nop => false,
     }
 }
@@ -146,7 +165,8 @@ fn only_outside(record: &Record) -> bool {
 }
 
 /// "Any record that branches, or has R15 as Rd, Rt or in a load's list, only with at most one
-/// waiting." R15 as Rd or Rt of any record but those that take an address is restricted.
+/// waiting." R15 as Rd or Rt of any record but those that take an address is restricted. Kind 16 is
+/// "last in its block" (S7).
 fn only_last(record: &Record) -> bool {
     record.takes_address() || record.direct_target(0).is_some()
 }

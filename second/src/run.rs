@@ -44,7 +44,8 @@ fn rounds(machine: &mut Machine, layout: &Layout, memory: &mut Memory, budget: u
             return Ran { number: DONE, place: 0, count };
         }
         // "R15 is neither a record's address nor the end, or the waiting list differs from the
-        // layout's there"; at the end the layout has none (R22).
+        // layout's there"; at the end the layout has none (R22). "R15 at a filler is 8, tested where 8
+        // stands" (order 1).
         let here = layout.at(machine.address()).filter(|entry| entry.waiting == machine.waiting);
         let entry = match here {
             Some(entry) => entry,

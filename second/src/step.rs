@@ -1,10 +1,10 @@
 //! "A step takes the machine and a record and hands back the next machine."
 
-use crate::access::access;
+use crate::access::{access, table_entry};
 use crate::compute::compute;
 use crate::machine::{Machine, LR, PC};
 use crate::memory::Memory;
-use crate::number::{Number, DONE, UNFIT};
+use crate::number::{Number, DONE, RESTRICTED, UNFIT};
 use crate::read::read_one;
 use crate::record::{Action, Control, Record};
 use crate::rules::refusal;
@@ -87,7 +87,9 @@ fn act(
     match &record.action {
         Action::Compute(action) => compute(now, next, action, record.s),
         Action::Access(action) => access(now, next, action, memory),
-        Action::Control(action) => control(now, next, record, action),
+        Action::Control(action) => control(now, next, record, action, memory),
+        // Refused before, by number 3.
+        Action::Filler { .. } => Err(RESTRICTED),
     }
 }
 
@@ -96,6 +98,7 @@ fn control(
     next: &mut Machine,
     record: &Record,
     action: &Control,
+    memory: &Memory,
 ) -> Result<(), Number> {
     // "BL, BLX set R14 to the next address with bit 0 set"
     let back = word::link(next_address(now, record));
@@ -120,6 +123,11 @@ fn control(
         Control::IfThen { condition, count, elses } => {
             next.waiting = Waiting::block(condition, count, elses);
             Ok(())
+        }
+        // "The branch goes to address + 4 plus twice the entry", modulo 2^32 (S11).
+        Control::TableBranch { halves, rn, rm } => {
+            let entry = table_entry(now, memory, halves, rn, rm)?;
+            next.put(PC, now.operand(PC).wrapping_add(2 * entry))
         }
         Control::CompareBranch { .. } | Control::Nop => Ok(()),
     }

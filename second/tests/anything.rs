@@ -49,7 +49,9 @@ fn slow_run(machine: &mut Machine, listing: &[u8], memory: &mut [u8], budget: u3
     let (mut places, mut place, mut address, mut block) = (vec![], 0, BASE, vec![]);
     while place < listing.len() {
         let (record, length) = read(listing, place).unwrap();
-        places.push((address, waiting(&block), place, length));
+        if !matches!(record.action, Action::Filler { .. }) {
+            places.push((address, waiting(&block), place, length));
+        }
         block = block.split_off(1.min(block.len()));
         if let Action::Control(Control::IfThen { condition, count, elses }) = record.action {
             block.push(condition);
@@ -82,11 +84,15 @@ fn a_run_is_its_steps() {
     let mut random = Random(1848);
     let mut seen = [0; 11];
     for _ in 0..40_000 {
-        let mut listing = Vec::new();
+        let mut listing = if random.below(20) == 0 { filler(2) } else { Vec::new() };
         for _ in 0..random.below(9) {
             let record = some_record(&mut random);
+            let room = leaves_room(&record);
             if judge(&record, 0) == 0 || random.below(50) == 0 {
                 listing.extend(record);
+                if room && random.below(2) == 0 {
+                    listing.extend(filler(random.pick(&[2, 2, 4, 100])));
+                }
             }
         }
         let mut machine = some_machine(&mut random);

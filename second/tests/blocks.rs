@@ -163,25 +163,36 @@ fn slow_check(listing: &[u8], base: u32) -> (u32, u32) {
     }
     let (mut place, mut address, mut open) = (0, u64::from(base), 0);
     let (mut records, mut landing) = (Vec::new(), Vec::new());
+    let mut room = true;
     while place < listing.len() {
         let (record, length) = match second::read::read(listing, place) {
             Ok(read) => read,
             Err(_) => return (2, place as u32),
         };
-        let number = judge(&listing[place..place + length], open);
+        let bytes = &listing[place..place + length];
+        let number = match bytes[0] {
+            0x17 if room && open == 0 => 0,
+            0x17 => 4,
+            _ => judge(bytes, open),
+        };
         if number != 0 {
             return (number, place as u32);
         }
-        if open == 0 {
+        if open == 0 && bytes[0] != 0x17 {
             landing.push(address);
         }
+        room = leaves_room(bytes) && open == 0;
         open = match record.action {
             Action::Control(Control::IfThen { count, .. }) => usize::from(count),
             _ => open.saturating_sub(1),
         };
         records.push((place, address, record));
         place += length;
-        address += if record.four_bytes { 4 } else { 2 };
+        address += match record.action {
+            Action::Filler { bytes } => u64::from(bytes),
+            _ if record.four_bytes => 4,
+            _ => 2,
+        };
     }
     if open > 0 {
         return (4, place as u32);
@@ -207,15 +218,20 @@ fn the_check_agrees_with_the_slow_one() {
         let mut listing = Vec::new();
         let records = random.below(12);
         while listing.len() < 4 * records as usize {
-            let record = match random.below(6) {
+            let record = match random.below(7) {
                 0 => b(random.pick(&[14, 14, 3]), 2 * random.below(16) as i32 - 16),
                 1 => it(random.below(14) as u8, 1 + random.below(2) as u8, 0),
                 2 => vec![0x13, 0, 0, 0, 2 * random.below(8) as u8],
                 3 => some_record(&mut random),
+                4 => random.pick(&[&bx(1)[..], &table(0, 1, 2), &table(1, 15, 0)]).to_vec(),
                 _ => vec![0x15, random.pick(&[0, 2])],
             };
+            let fill = if leaves_room(&record) { 2 } else { 60 };
             if judge(&record, 0) == 0 || random.below(20) == 0 {
                 listing.extend(record);
+            }
+            while random.below(fill) == 0 {
+                listing.extend(filler(random.pick(&[2, 2, 4, 6, 65_534])));
             }
         }
         let base = random.pick(&[0, 2, 0x1000, 0x1000, 0x1000, 0x1001, 0xFFFF_FFF0, 0xFFFF_FFFE]);

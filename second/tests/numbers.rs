@@ -62,7 +62,7 @@ fn number_1_of_a_check() {
     assert_eq!(check(&[0x15, 2], 0xFFFF_FFFC), (1, 2));
     assert_eq!(check(&[0x15, 0, 0x15, 0], 0xFFFF_FFFE), (1, 4));
     // 2 to 4 come before the end address, an open block among them; 9 comes after
-    assert_eq!(check(&[0x15, 2, 0x16], 0xFFFF_FFFC), (2, 2));
+    assert_eq!(check(&[0x15, 2, 0x18], 0xFFFF_FFFC), (2, 2));
     assert_eq!(check(&it(0, 1, 0), 0xFFFF_FFFE), (4, 5));
     assert_eq!(check(&b(14, 2), 0xFFFF_FFFE), (1, 8));
 }
@@ -81,7 +81,7 @@ fn numbers_2_3_4() {
     assert_eq!(number(machine(&[]), &[]), 2);
     assert_eq!(number(machine(&[]), &[0x15]), 2);
     assert_eq!(number(machine(&[]), &[0x15, 0, 0]), 2);
-    assert_eq!(number(machine(&[]), &[0x16, 0]), 2);
+    assert_eq!(number(machine(&[]), &[0x18, 0]), 2);
     assert_eq!(number(machine(&[]), &mov(13, 0)), 3);
     let mut blocked = machine(&[]);
     blocked.waiting = waiting(&[0, 0]);

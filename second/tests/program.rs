@@ -36,7 +36,7 @@ fn a_refused_check_is_one_line() {
     listing.extend(mov(1, 6));
     listing.truncate(17);
     assert_eq!(program(&listing), "check 2 at 9\n");
-    assert_eq!(program(&[&[0x15, 0].repeat(8)[..], &[0x15, 2, 0x16]].concat()), "check 2 at 18\n");
+    assert_eq!(program(&[&[0x15, 0].repeat(8)[..], &[0x15, 2, 0x18]].concat()), "check 2 at 18\n");
     assert_eq!(program(&it(0, 1, 0)), "check 4 at 5\n");
     assert_eq!(program(&b(14, 2)), "check 9 at 0\n");
 }

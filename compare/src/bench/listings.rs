@@ -3,6 +3,7 @@
 use super::clock::{median, Rounds};
 use crate::checks::listing::{fill_up, retarget, Records, BRANCH, COMPARE_BRANCH, IF_THEN};
 use crate::prng::Prng;
+use crate::table::{FILLER, TABLE_BRANCH};
 use crate::{proved, random_record};
 use std::time::Duration;
 
@@ -34,6 +35,30 @@ pub fn plain() -> Result<String, String> {
         let times = times(&plain_listing(bytes), LIMIT / bytes)?;
         let [proved, second] = times.map(|time| time.as_secs_f64() * 1e6);
         lines.push(format!("  {bytes:5} bytes: proved {proved:.1} us, second {second:.1} us"));
+    }
+    Ok(lines.join("\n"))
+}
+
+/// Order 1 of paper 02: fillers as long as they can be, each behind a TBB, each behind a B that goes to
+/// any landing place within its reach, and nothing else, so that all addresses are far apart.
+pub fn fillers() -> Result<String, String> {
+    let filler = vec![FILLER, 0xFE, 0xFF];
+    let pairs = |branch: &[u8]| -> Records {
+        let count = LIMIT / (branch.len() + filler.len());
+        [branch.to_vec(), filler.clone()].into_iter().cycle().take(2 * count).collect()
+    };
+    let mut branches = pairs(&[BRANCH, 0, 0, 14, 0, 0, 0, 0]);
+    fill_up(&mut branches, LIMIT);
+    retarget(&mut Prng::new(SEED), &mut branches);
+    let tables = pairs(&[TABLE_BRANCH, 0, 2, 15, 0]);
+    let alone = vec![filler.clone(); LIMIT / filler.len()];
+    let mut lines = vec![format!("check, fillers of 65534 machine bytes, median of {ROUNDS}:")];
+    for (name, records) in [("behind TBB", tables), ("behind B", branches), ("alone", alone)] {
+        let listing = records.concat();
+        let [proved, second] = times(&listing, 1)?.map(|time| time.as_secs_f64() * 1e3);
+        let (bytes, count) = (listing.len(), records.iter().filter(|its| **its == filler).count());
+        let told = format!("proved {proved:.3} ms, second {second:.3} ms");
+        lines.push(format!("  {bytes:5} bytes, {count:5} {name:10}: {told}"));
     }
     Ok(lines.join("\n"))
 }

@@ -2,6 +2,7 @@
 //! accepted listings at these ends.
 
 use crate::counts::Counts;
+use crate::walk::{end_of, walk};
 use std::fmt;
 
 const NAMES: [&str; 8] = [
@@ -38,7 +39,7 @@ impl Ends {
     }
 
     fn astray(&mut self, listing: &[u8], base: u32, place: usize) {
-        let address = i64::from(base) + machine_bytes(&listing[..place]);
+        let address = i64::from(base) + end_of(&listing[..place]);
         let (op, target) = match listing[place..] {
             [0x11, op, _, _, a, b, c, d, ..] => (op, i32::from_le_bytes([a, b, c, d])),
             [0x13, op, _, _, offset, ..] => (2 + op, i32::from(offset)),
@@ -52,13 +53,13 @@ impl Ends {
     }
 
     fn accepted(&mut self, listing: &[u8], base: u32) {
-        if !records(listing).any(|(record, _)| matches!(record[0], 0x11 | 0x13)) {
+        if !walk(listing).any(|item| matches!(item.record[0], 0x11 | 0x13)) {
             return;
         }
         if base == 0 {
             self.0.add(AT_0);
         }
-        if i64::from(base) + machine_bytes(listing) == HIGHEST_END {
+        if i64::from(base) + end_of(listing) == HIGHEST_END {
             self.0.add(AT_TOP);
         }
     }
@@ -66,20 +67,6 @@ impl Ends {
     pub fn gaps(&self) -> Vec<String> {
         self.0.gaps(1)
     }
-}
-
-/// The records of a listing and their machine bytes, as far as they can be read.
-fn records(listing: &[u8]) -> impl Iterator<Item = (&[u8], i64)> {
-    let mut place = 0;
-    std::iter::from_fn(move || {
-        let (record, length) = second::read::read(listing, place).ok()?;
-        place += length;
-        Some((&listing[place - length..place], i64::from(record.machine_length())))
-    })
-}
-
-fn machine_bytes(listing: &[u8]) -> i64 {
-    records(listing).map(|(_, bytes)| bytes).sum()
 }
 
 impl fmt::Display for Ends {

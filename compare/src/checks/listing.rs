@@ -1,6 +1,7 @@
 //! Listings that are accepted, a record each, so that mistakes can be made record by record.
 
 use crate::prng::Prng;
+use crate::table::FILLER;
 use crate::{random_record, table};
 
 pub type Records = Vec<Vec<u8>>;
@@ -13,15 +14,21 @@ const AL: u8 = 14;
 const CLZ: [u8; 5] = [0x06, 0, 0, 1, 2];
 const NOP: [u8; 2] = [0x15, 0];
 
-/// Where a record stands, from the listing's base, and whether it is outside all blocks.
+/// Where a record stands, from the listing's base, whether it is outside all blocks, and whether it is
+/// a landing place, which a filler is not.
 #[derive(Clone, Copy)]
 pub struct Spot {
     pub at: i64,
     pub outside: bool,
+    pub lands: bool,
 }
 
-/// Each record's machine bytes by its form; any bytes may come here, also those that are no record.
+/// Each record's machine bytes by its form, or a filler's number; any bytes may come here, also those
+/// that are no record.
 fn machine_bytes(record: &[u8]) -> i64 {
+    if let [FILLER, a, b] = *record {
+        return i64::from(u16::from_le_bytes([a, b]));
+    }
     let whole = record.len() > 2 || record.first() == Some(&0x15) && record.len() == 2;
     if whole && table::form_of(record) & 2 == 2 {
         4
@@ -35,7 +42,8 @@ pub fn spots(records: &[Vec<u8>]) -> Vec<Spot> {
     let (mut at, mut inside) = (0, 0);
     let mut spots = Vec::with_capacity(records.len());
     for record in records {
-        spots.push(Spot { at, outside: inside == 0 });
+        let outside = inside == 0;
+        spots.push(Spot { at, outside, lands: outside && record.first() != Some(&FILLER) });
         inside = match record[..] {
             [IF_THEN, _, _, count, _] if inside == 0 => count,
             _ => inside.saturating_sub(1),
@@ -110,23 +118,31 @@ pub fn fill_up(records: &mut Records, bytes: usize) {
 pub fn retarget(prng: &mut Prng, records: &mut Records) {
     let spots = spots(records);
     let mut landings: Vec<i64> =
-        spots.iter().filter(|spot| spot.outside).map(|spot| spot.at).collect();
+        spots.iter().filter(|spot| spot.lands).map(|spot| spot.at).collect();
     landings.push(end_of(records));
     for (record, spot) in records.iter_mut().zip(&spots) {
-        let near = match record[0] {
-            BRANCH => &landings[..],
-            COMPARE_BRANCH => {
-                let first = landings.partition_point(|&at| at < spot.at + 4);
-                let past = landings.partition_point(|&at| at <= spot.at + 4 + 126);
-                &landings[first..past]
-            }
-            _ => continue,
+        let (back, on) = match reach(record) {
+            Some(reach) => reach,
+            None => continue,
         };
-        match near {
+        let first = landings.partition_point(|&at| at < spot.at + 4 + back);
+        let past = landings.partition_point(|&at| at <= spot.at + 4 + on);
+        match &landings[first..past] {
             [] => *record = CLZ.to_vec(),
             [.., last] if prng.once_in(4) => lead(record, spot.at, *last),
-            _ => lead(record, spot.at, prng.pick(near)),
+            near => lead(record, spot.at, prng.pick(near)),
         }
+    }
+}
+
+/// The lowest and the highest offset of a direct branch: "B with AL and BL -16777216 to 16777214, other
+/// B -1048576 to 1048574"; "CBZ, CBNZ; .. offset 0 to 126".
+pub fn reach(record: &[u8]) -> Option<(i64, i64)> {
+    match record {
+        [BRANCH, _, _, AL, ..] => Some((-16_777_216, 16_777_214)),
+        [BRANCH, ..] => Some((-1_048_576, 1_048_574)),
+        [COMPARE_BRANCH, ..] => Some((0, 126)),
+        _ => None,
     }
 }
 

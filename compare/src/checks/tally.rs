@@ -1,6 +1,7 @@
 //! How the checks ended.
 
 use super::ends::Ends;
+use super::fillers::tally::Fillers;
 use std::fmt;
 
 /// What the check's table and prose tell apart.
@@ -20,15 +21,18 @@ pub struct Tally {
     /// Numbers and places that no check gives.
     strange: Vec<String>,
     ends: Ends,
+    fillers: Fillers,
 }
 
 impl Tally {
     pub fn new() -> Tally {
-        Tally { counts: [0; ENDS.len()], strange: Vec::new(), ends: Ends::new() }
+        let (ends, fillers) = (Ends::new(), Fillers::new());
+        Tally { counts: [0; ENDS.len()], strange: Vec::new(), ends, fillers }
     }
 
     pub fn check(&mut self, listing: &[u8], base: u32, (number, place): (u32, u32)) {
         self.ends.see(listing, base, number, place);
+        self.fillers.see(listing, base, number, place as usize);
         let length = listing.len();
         let at_end = place as usize == length;
         let end = match (number, place) {
@@ -53,7 +57,8 @@ impl Tally {
     pub fn gaps(&self) -> Vec<String> {
         let never = ENDS.iter().zip(self.counts).filter(|&(_, count)| count == 0);
         let never = never.map(|(end, _)| format!("never {end}"));
-        never.chain(self.strange.iter().cloned()).chain(self.ends.gaps()).collect()
+        let gaps: Vec<String> = never.chain(self.strange.iter().cloned()).collect();
+        [gaps, self.ends.gaps(), self.fillers.gaps()].concat()
     }
 }
 
@@ -62,6 +67,6 @@ impl fmt::Display for Tally {
         for (end, count) in ENDS.iter().zip(self.counts) {
             writeln!(f, "{count:9} {end}")?;
         }
-        write!(f, "{}", self.ends)
+        write!(f, "{}{}", self.ends, self.fillers)
     }
 }

@@ -3,6 +3,7 @@
 use super::tally::Tally;
 use crate::{hex, proved, Outcome};
 use second::read::{read, read_one};
+use second::record::Action;
 
 const WAITING: [u32; 5] = [0, 1, 2, 3, 4];
 const ADDRESSES: [u32; 6] = [0, 2, 0x1000, 0x7FFF_FFFE, 0xFFFF_FFFC, 0xFFFF_FFFE];
@@ -56,6 +57,7 @@ impl Comparison {
                 Ok(record) => match record.direct_target(address) {
                     Some(target) => 1 + (u64::from(target) << 32),
                     None if record.takes_address() => 2,
+                    None if matches!(record.action, Action::Filler { .. }) => 4,
                     None => 0,
                 },
             };

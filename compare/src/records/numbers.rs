@@ -3,6 +3,7 @@
 
 use super::answers::Comparison;
 use crate::prng::Prng;
+use crate::table::{FILLER, TABLE_BRANCH};
 use crate::Outcome;
 use std::ops::RangeInclusive;
 
@@ -52,6 +53,25 @@ pub fn halves(comparison: &mut Comparison) -> Outcome {
     for head in heads {
         for number in 0..=0xFFFF {
             half(comparison, head, number)?;
+        }
+    }
+    Ok(())
+}
+
+/// Kind 17, with all that its two bytes can hold: "2 to 65,534 machine bytes, even".
+pub fn fillers(comparison: &mut Comparison) -> Outcome {
+    for number in 0..=0xFFFF {
+        half(comparison, &[FILLER], number)?;
+    }
+    Ok(())
+}
+
+/// Kind 16: both ops, and one more, with all pairs of registers and some more, and every form that
+/// has a name and two more.
+pub fn table_branches(comparison: &mut Comparison) -> Outcome {
+    for (rn, rm) in (0..=17).flat_map(|rn| (0..=17).map(move |rm| (rn, rm))) {
+        for (op, form) in (0..3).flat_map(|op| (0..6).map(move |form| (op, form))) {
+            comparison.bytes(&[TABLE_BRANCH, op, form, rn, rm])?;
         }
     }
     Ok(())

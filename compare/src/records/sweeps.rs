@@ -1,6 +1,7 @@
 //! Bytes near the records of the stock.
 
 use super::answers::Comparison;
+use crate::table::{form_place, KINDS};
 use crate::Outcome;
 
 /// All registers and one more, the small limits on both sides, and the ends of a byte.
@@ -41,7 +42,7 @@ pub fn lengths(comparison: &mut Comparison, stock: &[Vec<u8>]) -> Outcome {
 /// Two bytes past the kind and the op at once, where a rule binds two fields.
 pub fn two_bytes(comparison: &mut Comparison, samples: &[Vec<u8>]) -> Outcome {
     for record in samples {
-        let start = if record[0] < 0x14 { 2 } else { 1 };
+        let start = form_place(record).unwrap_or(1);
         let mut near = record.clone();
         for first in start..record.len() {
             for second in first + 1..record.len() {
@@ -83,6 +84,41 @@ pub fn kinds_and_ops(comparison: &mut Comparison, samples: &[Vec<u8>]) -> Outcom
                 (bytes[0], bytes[1]) = (kind, op);
                 comparison.bytes(&bytes)?;
             }
+        }
+    }
+    Ok(())
+}
+
+/// Kinds 16 and 17 with every op byte, or first byte of the number, before the rest of every record of
+/// the stock; and every kind with every such byte before the rest of theirs: each made as long as the
+/// kind is.
+pub fn later_kinds(comparison: &mut Comparison, stock: &[Vec<u8>], later: &[Vec<u8>]) -> Outcome {
+    let own = stock.iter().chain(later);
+    let mut lengths = [None; KINDS + 1];
+    for record in own {
+        lengths[usize::from(record[0])] = Some(record.len());
+    }
+    for (kind, length) in (0..).zip(lengths).filter_map(|(kind, length)| Some((kind, length?))) {
+        let is_later = later.iter().any(|record| record[0] == kind);
+        let rests = if is_later { stock } else { &[] }.iter().chain(later);
+        for (rest, op) in rests.flat_map(|rest| (0..=255).map(move |op| (rest, op))) {
+            let mut bytes = rest.clone();
+            bytes.resize(length, 0);
+            (bytes[0], bytes[1]) = (kind, op);
+            comparison.bytes(&bytes)?;
+        }
+    }
+    Ok(())
+}
+
+/// Every kind byte with a body of every length, up to two bytes more than any kind has: of one byte
+/// repeated.
+pub fn bodies(comparison: &mut Comparison) -> Outcome {
+    for (kind, length) in (0..=255).flat_map(|kind| (0..=10).map(move |length| (kind, length))) {
+        for value in [0, 1, 2, 3, 4, 12, 13, 14, 15, 16, 254, 255] {
+            let mut bytes = vec![value; 1 + length];
+            bytes[0] = kind;
+            comparison.bytes(&bytes)?;
         }
     }
     Ok(())

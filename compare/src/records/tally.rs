@@ -1,10 +1,13 @@
-//! How often each answer was compared, and whether that is all that paper 01 has.
+//! How often each answer was compared, and whether that is all that paper 01 and order 1 of paper 02
+//! have.
 
+use crate::cover::Cover;
 use crate::shapes::Shapes;
 use crate::table::{self, possible_forms, KINDS};
 use std::fmt;
 
 const NUMBERS: [usize; 4] = [0, 2, 3, 4];
+const LONGEST: usize = 65_534;
 
 /// Row 0 is for bytes that start with no kind.
 pub struct Tally {
@@ -12,9 +15,11 @@ pub struct Tally {
     judged: [[u64; 5]; KINDS + 1],
     /// The forms of the records done, as a bit each, by kind and op.
     done: [[u8; 16]; KINDS + 1],
-    ways: [u64; 4],
-    /// By machine bytes, 0 for no record.
-    measured: [u64; 5],
+    ways: [u64; 5],
+    /// No record, of 2 machine bytes, of 4, of more, which only a filler has.
+    measured: [u64; 4],
+    /// The machine bytes that there are: 2 to 65,534, even.
+    lengths: Cover,
     shapes: Shapes,
 }
 
@@ -22,7 +27,9 @@ impl Tally {
     pub fn new(stock: &[Vec<u8>]) -> Tally {
         let (judged, done) = ([[0; 5]; KINDS + 1], [[0; 16]; KINDS + 1]);
         let shapes = Shapes::new(stock);
-        Tally { strings: 0, judged, done, ways: [0; 4], measured: [0; 5], shapes }
+        let is_case = |_, bytes: usize| bytes > 0 && bytes % 2 == 0;
+        let lengths = Cover::new("machine bytes of records", [1, LONGEST + 1], is_case);
+        Tally { strings: 0, judged, done, ways: [0; 5], measured: [0; 4], lengths, shapes }
     }
 
     pub fn string(&mut self) {
@@ -46,14 +53,18 @@ impl Tally {
     }
 
     pub fn went(&mut self, way: u64) {
-        self.ways[(way & 3) as usize] += 1;
+        self.ways[(way & 7) as usize] += 1;
     }
 
     pub fn measured(&mut self, measure: u64) {
-        self.measured[(measure >> 32) as usize] += 1;
+        let bytes = (measure >> 32) as usize;
+        self.measured[(bytes / 2).min(3)] += 1;
+        if bytes > 0 {
+            self.lengths.see(0, bytes);
+        }
     }
 
-    /// Where what occurred is not what paper 01 lets occur, neither more nor less.
+    /// Where what occurred is not what the papers let occur, neither more nor less.
     pub fn gaps(&self) -> Vec<String> {
         let mut gaps = Vec::new();
         for kind in 0..=KINDS {
@@ -71,9 +82,10 @@ impl Tally {
         if self.ways.contains(&0) {
             gaps.push("some way never occurred".to_string());
         }
-        if [0, 2, 4].iter().any(|&bytes| self.measured[bytes] == 0) {
+        if self.measured.contains(&0) {
             gaps.push("some length never occurred".to_string());
         }
+        gaps.extend(self.lengths.gap());
         gaps.extend(self.shapes.gaps());
         gaps
     }
@@ -92,10 +104,15 @@ impl fmt::Display for Tally {
             row(f, &name, NUMBERS.map(|number| self.judged[kind][number]))?;
         }
         row(f, "all", NUMBERS.map(|number| self.judged.iter().map(|row| row[number]).sum()))?;
-        let [next, direct, taken, none] = self.ways;
-        writeln!(f, "ways: {next} next, {direct} direct, {taken} taken, {none} no record")?;
-        let [none, _, two, _, four] = self.measured;
-        writeln!(f, "measures: {two} of 2 bytes, {four} of 4 bytes, {none} no record")?;
+        let [next, direct, taken, none, filler] = self.ways;
+        writeln!(
+            f,
+            "ways: {next} next, {direct} direct, {taken} taken, {none} no record, {filler} filler"
+        )?;
+        let [none, two, four, more] = self.measured;
+        let measures =
+            format!("{two} of 2 bytes, {four} of 4 bytes, {more} of more, {none} no record");
+        writeln!(f, "measures: {measures}\n{}", self.lengths)?;
         write!(f, "{}", self.shapes)
     }
 }

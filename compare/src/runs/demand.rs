@@ -1,12 +1,14 @@
 //! Demand 3, tried with the proved functions alone: an accepted listing that is run from its base by
 //! a good machine, with nothing waiting and memory within its limits, never ends with 1 to 4, and
 //! with 8 only where the last step took its next address from a register or from memory. A refused
-//! run leaves what the steps before it left.
+//! run leaves what the steps before it left. Order 1 of paper 02: "demand 3 is then read for a listing
+//! whose first record isn't a filler".
 
 use crate::counts::Counts;
 use crate::image::{self, COUNT};
 use crate::question::run::{Answer, Question, ROOM};
 use crate::question::Question as _;
+use crate::table::{FILLER, TABLE_BRANCH};
 use crate::{proved, Outcome};
 use std::fmt;
 
@@ -19,11 +21,11 @@ const USED_UP: u32 = 10;
 /// What `proved::way` gives for a record that takes its next address from a register or from memory.
 const TAKEN: u64 = 2;
 const NUMBERS: [&str; 6] = ["0", "5", "6", "7", "8", "10"];
-const WAYS: [&str; 7] = ["BX", "BLX", "MOV", "ADD", "LDR", "LDR by index", "LDM"];
+const WAYS: [&str; 9] = ["BX", "BLX", "MOV", "ADD", "LDR", "LDR by index", "LDM", "TBB", "TBH"];
 
 pub struct Demand {
     numbers: Counts<6>,
-    ways: Counts<7>,
+    ways: Counts<9>,
 }
 
 /// The record that a machine stands at.
@@ -72,12 +74,14 @@ impl Demand {
     }
 }
 
-/// "good machine at the base, nothing waiting, memory within limits", and the answer has its room.
+/// "good machine at the base, nothing waiting, memory within limits", no filler there, and the answer
+/// has its room.
 fn is_start(question: &Question) -> bool {
     let (image, memory) = (&question.image, &question.memory);
     question.room == ROOM
         && image::is_one(image)
         && image[COUNT] == 0
+        && question.listing.first() != Some(&FILLER)
         && image::register(image, SP) % 4 == 0
         && image::register(image, PC) == question.listing_base
         && memory.len() <= MEMORY_LIMIT
@@ -102,13 +106,14 @@ fn refused(question: &Question, ran: &Answer, place: u32, count: u32) -> Option<
 }
 
 /// The run with a budget of one step less ends with 10; from there the record takes its next address
-/// from a register or from memory, is done, and does not just go on: its condition passed. Gives
-/// which of WAYS.
+/// from a register or from memory and is done. In a block it does not just go on: its condition passed.
+/// Outside one it has none, and may lead to the filler right behind it. Gives which of WAYS.
 fn strayed(question: &Question, ran: &Answer, count: u32) -> Option<usize> {
     let before = ask(question, count.checked_sub(1)?);
     let site = site(question, &before)?;
     let (number, after) = step(question, &before, &site);
-    let went = image::register(&after.lent.image, PC) != site.next;
+    let outside = before.lent.image[COUNT] == 0;
+    let went = outside || image::register(&after.lent.image, PC) != site.next;
     let taken = proved::way(site.record, site.address) == TAKEN;
     let one_less = before.words() == Some([USED_UP, 0, count - 1]);
     if !(one_less && taken && went && number == 0 && after.lent == ran.lent) {
@@ -119,6 +124,7 @@ fn strayed(question: &Question, ran: &Answer, count: u32) -> Option<usize> {
         [0x01, 10, ..] => Some(2),
         [0x01, ..] => Some(3),
         [kind @ 0x0D..=0x0E, ..] => Some(usize::from(*kind - 0x0D) + 4),
+        [TABLE_BRANCH, op, ..] => Some(7 + usize::from(*op)),
         _ => Some(6),
     }
 }

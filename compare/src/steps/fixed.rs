@@ -37,9 +37,11 @@ pub fn records(comparison: &mut Comparison, stock: &Stock) -> Outcome {
     let mut put = |record: &[u8]| comparison.put(&question(image.clone(), record));
     for record in stock {
         let mut near = record.clone();
-        for form in 0..=4 {
-            near[form_place(record)] = form;
-            put(&near)?;
+        if let Some(place) = form_place(record) {
+            for form in 0..=4 {
+                near[place] = form;
+                put(&near)?;
+            }
         }
         let longer = [&record[..], &[0, 1]].concat();
         for length in (0..=longer.len()).filter(|&length| length != record.len()) {

@@ -43,7 +43,11 @@ fn nearly(prng: &mut Prng, record: &mut [u8]) {
         }
         [0x02, _, _, _, rn, ..] if !prng.once_in(4) => *rn = 13,
         [0x08, _, _, low, high, ..] if !prng.once_in(4) => *high = *low,
-        _ => record[form_place(record)] ^= 1,
+        _ => {
+            if let Some(place) = form_place(record) {
+                record[place] ^= 1;
+            }
+        }
     }
 }
 

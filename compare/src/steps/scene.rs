@@ -101,8 +101,14 @@ pub fn value(prng: &mut Prng, scene: &Scene) -> u32 {
 /// "each waiting condition is 0 to 14, each the same as the first or its inverse; 14 has no
 /// inverse".
 fn waiting(prng: &mut Prng, image: &mut Image) {
+    wait(prng, image, &[0, 0, 0, 0, 0, 0, 1, 1, 1, 2, 3, 4]);
+}
+
+/// As many conditions as one of the counts.
+pub fn wait(prng: &mut Prng, image: &mut Image, counts: &[u8]) {
     let first = prng.below(15) as u8;
-    image.count = prng.pick(&[0, 0, 0, 0, 0, 0, 1, 1, 1, 2, 3, 4]);
+    image.count = prng.pick(counts);
+    image.conditions = [0; 4];
     for slot in &mut image.conditions[..usize::from(image.count)] {
         *slot = first;
     }

@@ -1,9 +1,11 @@
-//! How the steps ended, and whether all that paper 01 lets occur did.
+//! How the steps ended, and whether all that the papers let occur did.
 
 use super::ends::Ends;
+use super::fillers::Fillers;
 use super::reversals::Reversals;
 use super::shifts::Shifts;
 use super::sights::{Look, SIGHTS};
+use super::table_sights::Tables;
 use crate::cover::Cover;
 use crate::image::{CONDITIONS, COUNT};
 use crate::image_bytes::ImageBytes;
@@ -32,6 +34,8 @@ pub struct Tally {
     seen: [u64; SIGHTS.len()],
     shifts: Shifts,
     reversals: Reversals,
+    tables: Tables,
+    fillers: Fillers,
     ends: Ends,
     shapes: Shapes,
     images: ImageBytes,
@@ -54,6 +58,8 @@ impl Tally {
             seen: [0; SIGHTS.len()],
             shifts: Shifts::new(),
             reversals: Reversals::new(),
+            tables: Tables::new(),
+            fillers: Fillers::new(),
             ends: Ends::new(),
             shapes: Shapes::new(stock),
             images: ImageBytes::new(),
@@ -67,6 +73,8 @@ impl Tally {
         self.ended[table::kind_of(&question.record)][number as usize] += 1;
         self.shapes.see(&question.record, number);
         self.images.see(&question.image, number);
+        self.tables.see(question, answer);
+        self.fillers.see(question, number);
         if number == 0 {
             self.done(question, &answer.lent.image);
         }
@@ -111,7 +119,7 @@ impl Tally {
         }
     }
 
-    /// Where what occurred is not what paper 01 lets occur, neither more nor less.
+    /// Where what occurred is not what the papers let occur, neither more nor less.
     pub fn gaps(&self) -> Vec<String> {
         let mut gaps = Vec::new();
         for (kind, ended) in self.ended.iter().enumerate() {
@@ -146,6 +154,8 @@ impl Tally {
         gaps.extend(self.lengths.gap());
         gaps.extend(self.shifts.gaps());
         gaps.extend(self.reversals.gaps());
+        gaps.extend(self.tables.gaps());
+        gaps.extend(self.fillers.gaps());
         [gaps, self.ends.gaps(), self.shapes.gaps(), self.images.gaps()].concat()
     }
 }
@@ -184,6 +194,7 @@ impl fmt::Display for Tally {
         writeln!(f, "among them: {}", seen.join(", "))?;
         writeln!(f, "{}; one byte over its limit: {}", self.lengths, self.over)?;
         write!(f, "{}{}", self.shifts, self.reversals)?;
+        write!(f, "{}{}", self.tables, self.fillers)?;
         write!(f, "{}{}{}", self.ends, self.shapes, self.images)
     }
 }

@@ -1,9 +1,10 @@
-//! The sample listings, listings at the limits, and numbers of every length in the text.
+//! The sample listings, listings at the limits, numbers of every length in the text, and fillers.
 
 use super::{is_dear, Comparison};
 use crate::checks::listing::{end_of, fill_up, lead, Records, BRANCH};
 use crate::checks::{fault, long};
 use crate::prng::Prng;
+use crate::table::{FILLER, TABLE_BRANCH};
 use crate::Outcome;
 
 /// "a listing of at most 32,768 bytes (more is number 1)"
@@ -20,6 +21,31 @@ const ENDLESS: [&[&[u8]]; 3] = [
         &[0x02, 0, 0, 4, 4, 3, 0, 0, 0],
         &[0x11, 0, 0, 14, 0xF6, 0xFF, 0xFF, 0xFF],
     ],
+];
+const TO_MEMORY: &[u8] = &[0x05, 1, 2, 2, 0x00, 0x20];
+const TBB: &[u8] = &[TABLE_BRANCH, 0, 2, 2, 0];
+const TBH: &[u8] = &[TABLE_BRANCH, 1, 2, 2, 0];
+const SHORT_FILLER: &[u8] = &[FILLER, 4, 0];
+/// Listings with fillers and table branches, and how their texts begin.
+const FILLERS: [(&[&[u8]], &str); 15] = [
+    (&[SHORT_FILLER], "end 8 steps 0\n"),
+    (&[SHORT_FILLER, &NOP], "end 8 steps 0\n"),
+    (&[&[FILLER, 0, 0]], "check 2 at 0\n"),
+    (&[SHORT_FILLER, &[FILLER, 3, 0]], "check 2 at 3\n"),
+    (&[SHORT_FILLER, &[FILLER, 2]], "check 2 at 3\n"),
+    (&[&NOP, SHORT_FILLER], "check 4 at 2\n"),
+    (&[&[0x14, 0, 0, 1, 0], SHORT_FILLER], "check 4 at 5\n"),
+    // B to the end, to the filler, into it
+    (&[&[0x11, 0, 0, AL, 2, 0, 0, 0], SHORT_FILLER], "end 0 steps 1\n"),
+    (&[&[0x11, 0, 2, AL, 0, 0, 0, 0], SHORT_FILLER], "check 9 at 0\n"),
+    (&[&[0x11, 0, 0, AL, 0, 0, 0, 0], SHORT_FILLER], "check 9 at 0\n"),
+    // by entry 0 of memory to the next record, which may be none
+    (&[TO_MEMORY, TBB, &NOP], "end 0 steps 3\n"),
+    (&[TO_MEMORY, TBH, SHORT_FILLER, &NOP], "end 8 steps 2\n"),
+    // no memory there
+    (&[TBH, &NOP], "end 6 steps 0\n"),
+    (&[&[TABLE_BRANCH, 0, 2, 15, 0], SHORT_FILLER], "end 6 steps 0\n"),
+    (&[&[TABLE_BRANCH, 0, 2, 13, 0]], "check 3 at 0\n"),
 ];
 const USED_UP: &str = "end 10 steps 1000000\n";
 /// Steps done, up to the budget and one more than it.
@@ -88,6 +114,22 @@ pub fn places(comparison: &mut Comparison) -> Outcome {
         if text != format!("check 2 at {place}\n") {
             return Err(format!("a listing with no record at {place} has this text:\n{text}"));
         }
+    }
+    Ok(())
+}
+
+/// Order 1 of paper 02, with the base 0x1000 and memory at 0x20000000 that a rehearsal has.
+pub fn fillers(comparison: &mut Comparison) -> Outcome {
+    for (records, front) in FILLERS {
+        let text = comparison.put(&records.concat())?;
+        if !text.starts_with(front) {
+            return Err(format!("a listing that is to end with {front} has this text:\n{text}"));
+        }
+    }
+    // as many as fit
+    let text = comparison.put(&[FILLER, 0xFE, 0xFF].repeat(LIMIT / 3))?;
+    if !text.starts_with("end 8 steps 0\n") {
+        return Err(format!("a listing of fillers alone has this text:\n{text}"));
     }
     Ok(())
 }

@@ -74,7 +74,7 @@ demand-3 budget h s b =
     let is = begun-run h s fit (eq-eqb _ 0 ok) budget in
     let k = rounds-hold h _ (by-claim h ok) budget s (record { good = b .machine-good; sixteen = b .sixteen; fits = b .memory-fits }) in
     let first : faced h (s .machine) ≡ Stray → ⊥ =
-    at-point h ok (start (h .base)) (start-on (h .listing) (h .base)) (s .machine) (b .at-first) (b .nothing-waits) in
+    at-point h ok (start (h .base)) (start-on (h .listing) (h .base)) (b .no-filler-first) (s .machine) (b .at-first) (b .nothing-waits) in
     let run = runs budget h s in
     record {
       number = rw is (k .number);

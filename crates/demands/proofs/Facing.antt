@@ -12,7 +12,7 @@ use Rattle.record.specs.declared.Record.{Record}
 use Rattle.layout.specs.declared.Point.{Point}
 use Rattle.layout.specs.declared.AtAddress.{AtAddress}
 use Rattle.layout.specs.declared.AtAddress.the-variants.{Stands, End, Stray}
-use Rattle.layout.specs.Layout.{Met, Onward, AtEnd, Refusal, meets, at-address, standing}
+use Rattle.layout.specs.Layout.{Met, Onward, AtEnd, Refusal, meets, at-address, filled, standing}
 use Rattle.layout.proofs.Members.{On, on-found}
 use Rattle.listing.proofs.Accepted.{Accepted, not-stopped, end-waits}
 use Rattle.machine.specs.declared.Machine.{Machine}
@@ -62,20 +62,20 @@ module _ (h : Rehearsal) (m : Machine) where
   unfolding faced
   faced-end e = agreed-end there (m .waiting) e
 
--- ---- at a point of an accepted listing, with its conditions waiting, a machine doesn't stray
+-- ---- at a point of an accepted listing that has no filler, with its conditions waiting, a machine doesn't stray
 not-stray : (listing : List ℕ) (base : ℕ) → Accepted listing base → (p : Point) → On listing base p
-    → (t : Met) → meets listing p ≡ t → agreeing (standing t p) (p .waiting) ≡ Stray → ⊥
-unfolding agreeing standing
-not-stray listing base ok p o (Onward r q) e f =
-    let g = rw (same-self (p .waiting)) at f in let z : _≡_ {A = ℕ} 0 1 = cc in omega arith
-not-stray listing base ok p o AtEnd e f =
+    → (t : Met) → meets listing p ≡ t → filled t ≡ false → agreeing (standing t p) (p .waiting) ≡ Stray → ⊥
+unfolding agreeing standing filled
+not-stray listing base ok p o (Onward r q) e s f =
+    let g = rw (s, same-self (p .waiting)) at f in let z : _≡_ {A = ℕ} 0 1 = cc in omega arith
+not-stray listing base ok p o AtEnd e n f =
     let s : same (p .waiting) nothing ≡ true = rw (end-waits listing base ok p o e) (same-self nothing) in
     let g = rw s at f in let z : _≡_ {A = ℕ} 0 1 = cc in omega arith
-not-stray listing base ok p o (Refusal number) e f = not-stopped listing base ok p o number e
+not-stray listing base ok p o (Refusal number) e s f = not-stopped listing base ok p o number e
 
 pub at-point : (h : Rehearsal) → Accepted (h .listing) (h .base) → (p : Point) → On (h .listing) (h .base) p
-    → (m : Machine) → held m PC ≡ p .address .0 → m .waiting ≡ p .waiting → faced h m ≡ Stray → ⊥
+    → filled (meets (h .listing) p) ≡ false → (m : Machine) → held m PC ≡ p .address .0 → m .waiting ≡ p .waiting → faced h m ≡ Stray → ⊥
 unfolding faced
-at-point h ok p o m a w e =
-    not-stray (h .listing) (h .base) ok p o (meets (h .listing) p) refl
+at-point h ok p o s m a w e =
+    not-stray (h .listing) (h .base) ok p o (meets (h .listing) p) refl s
     (rw (a, w, on-found (h .listing) (h .base) p o) at e)

@@ -1,36 +1,40 @@
 -- The step of a record that is faced in an accepted listing: it is refused with 5, 6 or 7, or the machine is fit again; and it strays
 -- only where the record takes its next address from a register or from memory.
 use Prim.Native.Nat.{ℕ, _+_, _%_, _^_}
-use mathlib.Core.Bool.{true}
+use mathlib.Core.Bool.{true, false, true≢false, _&&_}
 use mathlib.Core.Path.{_≡_, refl, sym, ap, _∙_}
 use native.Mathlib.Omega.{arith}
 use lib.IntN.{ℤ}
 use lib.ListN.{length}
-use Rattle.word.proofs.Cases.{cases}
+use borrow.Author.Tests.{eqb-true}
+use Rattle.word.proofs.Cases.{cases, yes-or-no, both-true}
 use Rattle.address.specs.Address.{cleared}
 use Rattle.address.proofs.Laws.{cleared-same}
-use Rattle.waiting.specs.Waiting.{dropped}
+use Rattle.waiting.specs.Waiting.{waiting-count, dropped}
 use Rattle.waiting.proofs.Good.{is-good}
 use Rattle.record.specs.declared.Record.{Record}
 use Rattle.flow.specs.declared.Way.{Way}
-use Rattle.flow.specs.declared.Way.the-variants.{Next, Direct, Taken}
-use Rattle.flow.specs.Flow.{machine-length, way, target, leaves, after}
-use Rattle.flow.proofs.Laws.{direct-drops}
+use Rattle.flow.specs.declared.Way.the-variants.{Next, Direct, Taken, Fills}
+use Rattle.flow.specs.Flow.{traits, machine-length, way, target, leaves, after}
+use Rattle.flow.proofs.Laws.{row, direct-drops}
 use Rattle.reading.specs.Reading.{part}
 use Rattle.reading.proofs.Places.{ahead}
+use Rattle.judge.specs.Judge.{refusal}
 use Rattle.setup.specs.Setup.{fits}
 use Rattle.setup.proofs.Laws.{fits-as-long}
 use Rattle.layout.specs.declared.Point.{Point}
 use Rattle.layout.specs.declared.AtAddress.the-variants.{Stands, Stray}
+use Rattle.layout.specs.Layout.{free}
 use Rattle.layout.proofs.Points.{onto, next-address}
 use Rattle.layout.proofs.Members.{On, Standing, stands-on, next-on}
-use Rattle.layout.proofs.Blocks.{waits-after, leaves-last, on-good}
+use Rattle.layout.proofs.Blocks.{unrefused, waits-after, parted-after, unparted, leaves-last, on-good}
 use Rattle.listing.proofs.Accepted.{Accepted, on-low, on-even, branch-lands}
 use Rattle.machine.specs.declared.Machine.{Machine}
 use Rattle.machine.specs.Machine.{PC, held, good}
 use Rattle.paper.proofs.Registers.{good-parts}
 use Rattle.paper.proofs.Steers.{Goes}
 use Rattle.paper.proofs.Came.{following, Arrived, Led, Result, step-result}
+use Rattle.paper.proofs.Parting.{step-parts}
 use Rattle.run.specs.Run.{Rehearsal, State, faced}
 use Rattle.demands.specs.Run.{At-record}
 use Rattle.demands.specs.Demand3.{Takes}
@@ -58,11 +62,14 @@ module _ (h : Rehearsal) (ok : Accepted (h .listing) (h .base)) where
     abbrev q : Point
     q = stands .next
 
+    unrefused-here : refusal r (waiting-count (m .waiting)) ≡ 0
+    unrefused-here = rw (here .waits) (unrefused (h .listing) p r q (stands .goes) (stands .steps))
+
     pub result : Result m r (s .memory) (tried h s p)
     result =
         let o = onto (h .listing) p r q (stands .goes) in
         step-result m (part (h .listing) (p .place .0)) (s .memory) (h .setup) r (fit .good) (fit .fits) (fit .sixteen)
-        (ahead (h .listing) (p .place .0) r (q .place) (o .read) .read) (rw (here .waits) (o .stands))
+        (ahead (h .listing) (p .place .0) r (q .place) (o .read) .read) unrefused-here
 
     module _ (done : tried h s p .answer .number ≡ 0) where
       abbrev x : Machine
@@ -84,13 +91,24 @@ module _ (h : Rehearsal) (ok : Accepted (h .listing) (h .base)) where
         fits = fits-as-long (h .setup) (s .memory) (tried h s p .memory) (result .size) (fit .fits);
       }
 
-      -- a machine that is led on to the next record is at the point after this one
-      not-onward : held x PC ≡ following m r → faced h x ≡ Stray → ⊥
-      not-onward a =
+      -- a record that a filler may stand after takes the machine where it goes
+      gone : (traits r .parts && free p) ≡ true → Arrived m r (held x PC)
+      unfolding free
+      gone t =
+          let b = both-true (traits r .parts) (free p) t in
+          let none : waiting-count (m .waiting) ≡ 0 = rw (here .waits) (eqb-true (waiting-count (p .waiting)) 0 (b .1)) in
+          let o = onto (h .listing) p r q (stands .goes) in
+          step-parts m (part (h .listing) (p .place .0)) (s .memory) (h .setup) r (fit .good) (fit .fits) (fit .sixteen)
+          (ahead (h .listing) (p .place .0) r (q .place) (o .read) .read) unrefused-here
+          (cases (row r .parts) (λ e. absurd (true≢false (sym (b .0) ∙ e))) (λ e. e)) (stands .steps) none done
+
+      -- a machine that is led on to the next record is at the point after this one, where no filler stands
+      not-onward : (traits r .parts && free p) ≡ false → held x PC ≡ following m r → faced h x ≡ Stray → ⊥
+      not-onward t a =
           let low = on-low (h .listing) (h .base) ok q on in
           let there : (held m PC + machine-length r) % 2 ^ 32 ≡ q .address .0 =
           omega (arith, stands .at, next-address (h .listing) p r q (stands .goes), low) in
-          at-point h ok q on x
+          at-point h ok q on (unparted (h .listing) q (parted-after (h .listing) p r q (stands .goes) ∙ t)) x
           (a ∙ (ap (cleared 0) there ∙ cleared-same (q .address .0) (on-even (h .listing) (h .base) ok q on)))
           waits-next
 
@@ -102,14 +120,18 @@ module _ (h : Rehearsal) (ok : Accepted (h .listing) (h .base)) where
           let to = land .point .address .0 in
           let there = g ∙ (ap (λ (n : ℕ). target n (Direct offset)) (sym (stands .at)) ∙ sym (land .at)) in
           let last = leaves-last (h .listing) (h .base) p (stands .on) r q (stands .goes) (rw f) in
-          at-point h ok (land .point) (land .on) x
+          at-point h ok (land .point) (land .on) (land .steps) x
           (a .at ∙ (ap (cleared 0) there ∙ cleared-same to (on-even (h .listing) (h .base) ok (land .point) (land .on))))
           (led .waits ∙ (direct-drops r offset f (m .waiting) ∙ (ap dropped (here .waits) ∙ (last ∙ sym (land .waits)))))
 
       pub strays : faced h x ≡ Stray → Takes (passage h s r p)
-      strays f = cases (led .at) (λ a. absurd (not-onward a f)) (λ a. arrived a (way r) refl (a .goes))
+      strays f =
+          cases (yes-or-no (traits r .parts && free p))
+          (λ t. let a = gone t in arrived a (way r) refl (a .goes))
+          (λ t. cases (led .at) (λ a. absurd (not-onward t a f)) (λ a. arrived a (way r) refl (a .goes)))
         where
           arrived : (a : Arrived m r (held x PC)) (w : Way) → way r ≡ w → Goes m w (a .value) → Takes (passage h s r p)
           arrived a Next w g = absurd g
+          arrived a Fills w g = absurd g
           arrived a (Direct offset) w g = absurd (not-direct a offset w g f)
           arrived a Taken w g = record { passed = a .passed; from = w }

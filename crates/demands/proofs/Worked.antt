@@ -5,14 +5,14 @@ use Rattle.address.specs.Address.{cleared, linked}
 use Rattle.waiting.specs.Waiting.{waiting-count, dropped, same, good-waiting}
 use Rattle.fields.specs.Fields.{well-formed}
 use Rattle.restricted.specs.Restricted.{allowed}
-use Rattle.flow.specs.Flow.{traits, machine-length, way, leaves, misplaced, opened, after, own-condition}
+use Rattle.flow.specs.Flow.{traits, machine-length, way, leaves, fills, misplaced, opened, after, own-condition}
 use Rattle.kinds.specs.Kinds.{listing-length, names, form, register-branch-from, record-of}
 use Rattle.reading.specs.Reading.{coded, named, read-one, found-at, read-at}
 use Rattle.judge.specs.Judge.{refusal}
 use Rattle.flags.specs.Flags.{passes}
 use Rattle.setup.specs.Setup.{fits}
-use Rattle.layout.specs.Layout.{start, next, judged-at, meets, walk, layout, sought, standing, standing-at, at-address}
-use Rattle.listing.specs.Check.{lowest, free, end-fault, fault, astray, branch-fault, first-pass, second-pass, checked}
+use Rattle.layout.specs.Layout.{start, free, next, refusal-at, judged-at, meets, walk, layout, sought, filled, standing, standing-at, at-address}
+use Rattle.listing.specs.Check.{lowest, end-fault, fault, astray, branch-fault, first-pass, second-pass, checked}
 use Rattle.machine.specs.Machine.{held, operand-value, kept, written, with-waiting, good, ruling, condition-passes, advanced, onward, refused, done, steady, settled, landed}
 use Rattle.machine.specs.Branch.{linking, register-branch-effect}
 use Rattle.machine.specs.Step.{effect, obeyed, considered, stepped}
@@ -21,11 +21,19 @@ use Rattle.demands.specs.Demand3.{Start}
 use Rattle.demands.specs.Worked.{shown, from, run-table, Runs-worked}
 
 pub worked : Runs-worked run-table
-unfolding cleared linked waiting-count dropped same good-waiting well-formed allowed traits machine-length way leaves misplaced opened after own-condition listing-length names form register-branch-from record-of coded named read-one found-at read-at refusal passes fits start next judged-at meets walk layout sought standing standing-at at-address lowest free end-fault fault astray branch-fault first-pass second-pass checked held operand-value kept written with-waiting good ruling condition-passes advanced onward refused done steady settled landed linking register-branch-effect effect obeyed considered stepped agreeing faced attempted round-at round used-up rounds run-of
+unfolding cleared linked waiting-count dropped same good-waiting well-formed allowed traits machine-length way leaves fills misplaced opened after own-condition listing-length names form register-branch-from record-of coded named read-one found-at read-at refusal passes fits start free next refusal-at judged-at meets walk layout sought filled standing standing-at at-address lowest end-fault fault astray branch-fault first-pass second-pass checked held operand-value kept written with-waiting good ruling condition-passes advanced onward refused done steady settled landed linking register-branch-effect effect obeyed considered stepped agreeing faced attempted round-at round used-up rounds run-of
 worked = (
   (any 0x1005, refl, refl, refl),
   ((any 0x2000, refl, refl, refl), ((any 0x2001, refl, refl, refl), ((any 0x1001, refl, refl, refl), tt))),
 )
   where
     any : (r0 : ℕ) → Start shown (from r0)
-    any r0 = record { accepted = refl; memory-fits = refl; machine-good = refl; sixteen = refl; at-first = refl; nothing-waits = refl }
+    any r0 = record {
+      accepted = refl;
+      memory-fits = refl;
+      machine-good = refl;
+      sixteen = refl;
+      at-first = refl;
+      nothing-waits = refl;
+      no-filler-first = refl;
+    }

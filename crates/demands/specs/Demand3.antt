@@ -2,7 +2,7 @@
 -- any registers, flags, memory bytes and budget the run never ends with 1 to 4; before every step the waiting conditions are those
 -- that the layout gives; it ends with 8 only directly after a step that took its next address from a register or from memory."
 use Prim.Native.Nat.{ℕ, _≤_}
-use mathlib.Core.Bool.{true}
+use mathlib.Core.Bool.{true, false}
 use mathlib.Core.List.{List, [], _∷_}
 use mathlib.Core.Path.{_≡_}
 use lib.Dec.{eqb}
@@ -14,6 +14,7 @@ use Rattle.flow.specs.declared.Way.the-variants.{Taken}
 use Rattle.flow.specs.Flow.{way}
 use Rattle.setup.specs.Setup.{fits}
 use Rattle.layout.specs.declared.Point.{Point}
+use Rattle.layout.specs.Layout.{start, meets, filled}
 use Rattle.listing.specs.Check.{checked}
 use Rattle.machine.specs.Machine.{PC, held, good, condition-passes}
 use Rattle.run.specs.Run.{Rehearsal, State, Passage, Course, run-of}
@@ -28,6 +29,8 @@ pub record Start (h : Rehearsal) (s : State) : Type 0 where
   pub sixteen : length (s .machine .registers) ≡ 16
   pub at-first : held (s .machine) PC ≡ h .base
   pub nothing-waits : s .machine .waiting ≡ nothing
+  -- order 1: "demand 3 is then read for a listing whose first record isn't a filler"
+  pub no-filler-first : filled (meets (h .listing) (start (h .base))) ≡ false
 
 abbrev pub Not-1-to-4 : ℕ → Type 0
 Not-1-to-4 number = 1 ≤ number → number ≤ 4 → ⊥

@@ -35,7 +35,7 @@ use Rattle.record.specs.declared.BranchFields.{BranchFields}
 use Rattle.record.specs.declared.CompareBranchFields.{CompareBranchFields}
 use Rattle.record.specs.declared.IfThenFields.{IfThenFields}
 use Rattle.record.specs.declared.Record.{Record}
-use Rattle.record.specs.declared.Record.the-variants.{ShiftedRegister, Constant, RegisterShift, AddNumber, MoveNumber, Unary, Multiply, LongMultiply, Divide, Saturate, BitField, Extend, Access, IndexedAccess, DualAccess, MultipleAccess, Branch, RegisterBranch, CompareBranch, IfThen, Nop}
+use Rattle.record.specs.declared.Record.the-variants.{ShiftedRegister, Constant, RegisterShift, AddNumber, MoveNumber, Unary, Multiply, LongMultiply, Divide, Saturate, BitField, Extend, Access, IndexedAccess, DualAccess, MultipleAccess, Branch, RegisterBranch, CompareBranch, IfThen, Nop, TableBranch, Filler}
 
 -- "registers 0 to 15"
 abbrev pub register : ℕ → Bool
@@ -159,7 +159,11 @@ if-then-formed d =
     not (d .form .s) && not (d .form .wide) && leb (d .condition) 14 && leb 1 (d .count) && leb (d .count) 4
     && elses-fit (d .elses) (d .count)
 
--- "field not as above": number 2 is given for any other
+-- order 1: "a filler of 2 to 65,534 machine bytes, even"
+abbrev pub filler-formed : ℕ → Bool
+filler-formed number = leb 2 number && leb number 65534 && eqb (number % 2) 0
+
+-- "field not as above": number 2 is given for any other; order 1: kind 16 has "4 machine bytes"
 unfoldable pub well-formed : Record → Bool
 well-formed (ShiftedRegister d) = shifted-register-formed d
 well-formed (Constant d) = constant-formed d
@@ -184,3 +188,5 @@ well-formed (RegisterBranch d) = not (d .form .s) && not (d .form .wide) && regi
 well-formed (CompareBranch d) = compare-branch-formed d
 well-formed (IfThen d) = if-then-formed d
 well-formed (Nop form) = not (form .s)
+well-formed (TableBranch d) = not (d .form .s) && d .form .wide && register (d .rn) && register (d .rm)
+well-formed (Filler number) = filler-formed number

@@ -39,5 +39,7 @@ pub fn is_well_formed(r: Record) -> bool
         Record::CompareBranch(d) => parts::compare_branch_of(d),
         Record::IfThen(d) => parts::if_then_of(d),
         Record::Nop(form) => !form.s,
+        Record::TableBranch(d) => !d.form.s & d.form.wide & (d.rn < 16) & (d.rm < 16),
+        Record::Filler(number) => parts::filler_of(number),
     }
 }

@@ -2,7 +2,7 @@
 
 ghost use mathlib.Core.Path.{_≡_};
 ghost use Rattle.fields.specs.Fields.{data-operands, elses-fit, shift-amount, turns, multiply-accumulates, saturated-bits, saturated-shift, field-source, access-offset, dual-offset, branch-reach};
-ghost use Rattle.fields.specs.Fields.{shifted-register-formed, constant-formed, register-shift-formed, multiply-formed, saturate-formed, bit-field-formed, extend-formed, access-formed, dual-access-formed, branch-formed, compare-branch-formed, if-then-formed};
+ghost use Rattle.fields.specs.Fields.{shifted-register-formed, constant-formed, register-shift-formed, multiply-formed, saturate-formed, bit-field-formed, extend-formed, access-formed, dual-access-formed, branch-formed, compare-branch-formed, if-then-formed, filler-formed};
 use record::AccessFields;
 use record::BitFieldFields;
 use record::BranchFields;
@@ -238,6 +238,13 @@ pub fn if_then_of(d: IfThenFields) -> bool
         & (1 <= count)
         & (count <= 4)
         & elses_fit_of(d.elses, count)
+}
+
+// An even number of 16 bits is at most 65,534.
+pub fn filler_of(number: u16) -> bool
+    ensures { λ r. ⌜ r ≡ filler-formed number ⌝ }
+{
+    (2 <= number) & (number % 2 == 0)
 }
 
 // There is an else bit for each record after the first.

@@ -6,16 +6,16 @@ use lib.IntN.{pos}
 use Rattle.word.specs.Choice.{if_then_else_}
 use Rattle.address.specs.Address.{moved}
 use Rattle.register_list.specs.List.{member}
-use Rattle.record.specs.Op.{data-code, is-bl, is-ldr, is-mul, loads-many}
+use Rattle.record.specs.Op.{data-code, is-bl, is-blx, is-ldr, is-mul, loads-many}
 use Rattle.record.specs.declared.Form.{Form}
 use Rattle.record.specs.declared.op.DataOp.{DataOp}
 use Rattle.record.specs.declared.Record.{Record}
-use Rattle.record.specs.declared.Record.the-variants.{ShiftedRegister, Constant, RegisterShift, AddNumber, MoveNumber, Unary, Multiply, LongMultiply, Divide, Saturate, BitField, Extend, Access, IndexedAccess, DualAccess, MultipleAccess, Branch, RegisterBranch, CompareBranch, IfThen, Nop}
+use Rattle.record.specs.declared.Record.the-variants.{ShiftedRegister, Constant, RegisterShift, AddNumber, MoveNumber, Unary, Multiply, LongMultiply, Divide, Saturate, BitField, Extend, Access, IndexedAccess, DualAccess, MultipleAccess, Branch, RegisterBranch, CompareBranch, IfThen, Nop, TableBranch, Filler}
 use Rattle.waiting.specs.declared.Waiting.{Waiting}
 use Rattle.waiting.specs.Waiting.{block, dropped}
 use Rattle.flow.specs.declared.Traits.{Traits}
 use Rattle.flow.specs.declared.Way.{Way}
-use Rattle.flow.specs.declared.Way.the-variants.{Next, Direct, Taken}
+use Rattle.flow.specs.declared.Way.the-variants.{Next, Direct, Taken, Fills}
 use Rattle.flow.specs.declared.Opens.{Opens}
 use Rattle.flow.specs.declared.Opens.the-variants.{Nothing, Block}
 
@@ -33,7 +33,8 @@ taken-if test = if test then Taken else Next
 
 -- a record that may stand anywhere in a block, or last in it if it leaves, with no condition of its own (as if it were AL)
 abbrev pub going : Form → Way → Traits
-going form way = record { length = form-length form; way = way; alone = false; own = 14; opens = Nothing }
+going form way =
+    record { length = form-length form; way = way; alone = false; own = 14; opens = Nothing; parts = false }
 
 -- one that only goes on to the next
 abbrev pub passing : Form → Traits
@@ -41,11 +42,19 @@ passing form = going form Next
 
 -- one that stands alone if the test holds: "only with no conditions waiting"
 abbrev pub lone : Bool → Form → Way → Traits
-lone test form way = record { length = form-length form; way = way; alone = test; own = 14; opens = Nothing }
+lone test form way =
+    record { length = form-length form; way = way; alone = test; own = 14; opens = Nothing; parts = false }
+
+-- one that goes where a register or memory says, and after which a filler may stand if the test holds
+abbrev pub parting : Bool → Form → Traits
+parting test form =
+    record { length = form-length form; way = Taken; alone = false; own = 14; opens = Nothing; parts = test }
 
 -- The traits of each kind. Where it goes: on to the next; directly, by an offset ("B, BL, CBZ and CBNZ are direct"); or where a register or
 -- memory says ("BX, BLX, MOV or ADD with Rd 15, LDR with Rt 15, or a load of kind 10 with 15 in its list"). What stands alone: "IT, CBZ, CBNZ,
 -- MULS, and B with its own condition (not AL)". Its own condition: "kind 11 outside a block uses its own". The block: "IT sets the list".
+-- Order 1: kind 16 "counts as taking its address from memory"; a filler "may stand only after an unconditional B .., after BX .., after kind 16
+-- .., after another filler", each outside a block; a filler's length is its number.
 unfoldable pub traits : Record → Traits
 traits (ShiftedRegister d) = going (d .form) (taken-if (to-pc (d .op) (d .rd)))
 traits (Constant d) = going (d .form) (taken-if (to-pc (d .op) (d .rd)))
@@ -69,8 +78,9 @@ traits (Branch d) = record {
   alone = not (is-bl (d .op)) && not (eqb (d .condition) 14);
   own = d .condition;
   opens = Nothing;
+  parts = not (is-bl (d .op)) && eqb (d .condition) 14;
 }
-traits (RegisterBranch d) = going (d .form) Taken
+traits (RegisterBranch d) = parting (not (is-blx (d .op))) (d .form)
 traits (CompareBranch d) = lone true (d .form) (Direct (pos (d .offset)))
 traits (IfThen d) = record {
   length = form-length (d .form);
@@ -78,8 +88,11 @@ traits (IfThen d) = record {
   alone = true;
   own = 14;
   opens = Block (d .condition) (d .count) (d .elses);
+  parts = false;
 }
 traits (Nop form) = passing form
+traits (TableBranch d) = parting true (d .form)
+traits (Filler number) = record { length = number; way = Fills; alone = false; own = 14; opens = Nothing; parts = true }
 
 unfoldable pub machine-length : Record → ℕ
 machine-length r = traits r .length
@@ -92,12 +105,21 @@ unfoldable pub target : ℕ → Way → ℕ
 target address Next = 0
 target address (Direct offset) = moved ((address + 4) % 2 ^ 32) offset
 target address Taken = 0
+target address Fills = 0
 
 -- "Any record that branches, or has R15 as Rd, Rt or in a load's list": any other with R15 as Rd or Rt is restricted
 unfoldable pub leaves : Way → Bool
 leaves Next = false
 leaves (Direct offset) = true
 leaves Taken = true
+leaves Fills = false
+
+-- is it a filler?
+unfoldable pub fills : Way → Bool
+fills Next = false
+fills (Direct offset) = false
+fills Taken = false
+fills Fills = true
 
 -- "only with no conditions waiting"; "only with at most one waiting"
 unfoldable pub misplaced : Record → ℕ → Bool

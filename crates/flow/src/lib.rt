@@ -1,7 +1,7 @@
 // What a record does to the way through a listing.
 
 ghost use mathlib.Core.Path.{_≡_};
-ghost use Rattle.flow.specs.Flow.{form-length, to-pc, taken-if, going, passing, lone, traits, machine-length, way, target, leaves, misplaced, opened, after, own-condition};
+ghost use Rattle.flow.specs.Flow.{form-length, to-pc, taken-if, going, passing, lone, parting, traits, machine-length, way, target, leaves, fills, misplaced, opened, after, own-condition};
 ghost use Rattle.record.specs.declared.Record.the-variants.{Branch, IfThen};
 use record::BranchFields;
 use record::Form;
@@ -19,6 +19,8 @@ pub enum Way {
     Direct(i32),
     // where a register or memory says
     Taken,
+    // nowhere: it is a filler, which is not stepped
+    Fills,
 }
 
 // What a record opens: no block, or one of a condition, a count and else bits.
@@ -37,6 +39,8 @@ pub struct Traits {
     // the condition that rules it outside a block
     pub own: u8,
     pub opens: Opens,
+    // may a filler stand after it, where nothing waits at it?
+    pub parts: bool,
 }
 
 // One match a record: a kind more is a row here.
@@ -87,10 +91,22 @@ pub fn traits_of(r: Record) -> Traits
             going_of(d.form, taken_if_of(leaves))
         }
         Record::Branch(d) => branch_traits_of(d),
-        Record::RegisterBranch(d) => going_of(d.form, Way::Taken),
+        Record::RegisterBranch(d) => {
+            let op = d.op;
+            parting_of(!record::op::is_blx_of(op), d.form)
+        }
         Record::CompareBranch(d) => lone_of(true, d.form, Way::Direct(d.offset as i32)),
         Record::IfThen(d) => if_then_traits_of(d),
         Record::Nop(form) => passing_of(form),
+        Record::TableBranch(d) => parting_of(true, d.form),
+        Record::Filler(number) => Traits {
+            length: number as u32,
+            way: Way::Fills,
+            alone: false,
+            own: 14,
+            opens: Opens::Nothing,
+            parts: true,
+        },
     }
 }
 
@@ -98,12 +114,14 @@ fn branch_traits_of(d: BranchFields) -> Traits
     ensures { λ t. ⌜ t ≡ traits (Branch d) ⌝ }
 {
     let op = d.op;
+    let links = record::op::is_bl_of(op);
     Traits {
         length: form_length_of(d.form),
         way: Way::Direct(d.offset),
-        alone: !record::op::is_bl_of(op) & !(d.condition == 14),
+        alone: !links & !(d.condition == 14),
         own: d.condition,
         opens: Opens::Nothing,
+        parts: !links & (d.condition == 14),
     }
 }
 
@@ -116,6 +134,7 @@ fn if_then_traits_of(d: IfThenFields) -> Traits
         alone: true,
         own: 14,
         opens: Opens::Block(d.condition, d.count, d.elses),
+        parts: false,
     }
 }
 
@@ -128,6 +147,20 @@ fn lone_of(test: bool, form: Form, way: Way) -> Traits
         alone: test,
         own: 14,
         opens: Opens::Nothing,
+        parts: false,
+    }
+}
+
+fn parting_of(test: bool, form: Form) -> Traits
+    ensures { λ t. ⌜ t ≡ parting test form ⌝ }
+{
+    Traits {
+        length: form_length_of(form),
+        way: Way::Taken,
+        alone: false,
+        own: 14,
+        opens: Opens::Nothing,
+        parts: test,
     }
 }
 
@@ -182,6 +215,7 @@ pub fn target_of(address: u32, w: Way) -> u32
         Way::Next => 0,
         Way::Direct(offset) => address::offset_by(std::num::wrapping_add_u32(address, 4), offset),
         Way::Taken => 0,
+        Way::Fills => 0,
     }
 }
 
@@ -192,6 +226,18 @@ pub fn leaves_of(w: Way) -> bool
         Way::Next => false,
         Way::Direct(_) => true,
         Way::Taken => true,
+        Way::Fills => false,
+    }
+}
+
+pub fn fills_of(w: Way) -> bool
+    ensures { λ t. ⌜ t ≡ fills w ⌝ }
+{
+    match w {
+        Way::Next => false,
+        Way::Direct(_) => false,
+        Way::Taken => false,
+        Way::Fills => true,
     }
 }
 

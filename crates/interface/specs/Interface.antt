@@ -7,7 +7,7 @@ use lib.ListN.{length}
 use Rattle.word.specs.Choice.{if_then_else_}
 use Rattle.flow.specs.Flow.{machine-length, way, target}
 use Rattle.flow.specs.declared.Way.{Way}
-use Rattle.flow.specs.declared.Way.the-variants.{Next, Direct, Taken}
+use Rattle.flow.specs.declared.Way.the-variants.{Next, Direct, Taken, Fills}
 use Rattle.setup.specs.declared.Setup.{Setup}
 use Rattle.setup.specs.Setup.{at-base}
 use Rattle.memory.specs.Memory.{stored}
@@ -93,11 +93,12 @@ unfoldable pub measured : ReadAt → ℕ → ℕ
 measured (Found r next) kind = pair (listing-length kind) (machine-length r)
 measured Nothing kind = 0
 
--- 0 for a record that goes on; 1, and above it the target; 2 where a register or memory says
+-- 0 for a record that goes on; 1, and above it the target; 2 where a register or memory says; 4 for a filler, which goes nowhere
 unfoldable pub way-number : Way → ℕ → ℕ
 way-number Next address = 0
 way-number (Direct offset) address = pair 1 (target address (Direct offset))
 way-number Taken address = 2
+way-number Fills address = 4
 
 unfoldable pub way-read : Read → ℕ → ℕ
 way-read (Is r) address = way-number (way r) address

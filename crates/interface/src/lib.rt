@@ -126,6 +126,7 @@ fn way_number_of(w: Way, address: u32) -> u64
         Way::Next => 0,
         Way::Direct(_) => pair_of(1, flow::target_of(address, w)),
         Way::Taken => 2,
+        Way::Fills => 4,
     }
 }
 

@@ -4,21 +4,21 @@ use mathlib.Core.List.{List, [], _∷_}
 use lib.ListN.{getD}
 use Rattle.word.specs.Word.{bit, signed, signed-in}
 use Rattle.little.specs.Little.{byte, number-at}
-use Rattle.record.specs.Op.{access-op, add-op, branch-op, compare-op, data-op, divide-op, dual-op, extend-op, field-op, long-op, mode, move-op, multiple-op, multiply-op, register-op, saturate-op, shift, unary-op}
+use Rattle.record.specs.Op.{access-op, add-op, branch-op, compare-op, data-op, divide-op, dual-op, extend-op, field-op, long-op, mode, move-op, multiple-op, multiply-op, register-op, saturate-op, shift, table-op, unary-op}
 use Rattle.record.specs.declared.Form.{Form}
 use Rattle.record.specs.declared.Record.{Record}
-use Rattle.record.specs.declared.Record.the-variants.{ShiftedRegister, Constant, RegisterShift, AddNumber, MoveNumber, Unary, Multiply, LongMultiply, Divide, Saturate, BitField, Extend, Access, IndexedAccess, DualAccess, MultipleAccess, Branch, RegisterBranch, CompareBranch, IfThen, Nop}
+use Rattle.record.specs.declared.Record.the-variants.{ShiftedRegister, Constant, RegisterShift, AddNumber, MoveNumber, Unary, Multiply, LongMultiply, Divide, Saturate, BitField, Extend, Access, IndexedAccess, DualAccess, MultipleAccess, Branch, RegisterBranch, CompareBranch, IfThen, Nop, TableBranch, Filler}
 
 -- the bytes of a record of each kind, its kind byte included; 0: there is no such kind
 abbrev pub lengths : List ℕ
-lengths = 0 ∷ 8 ∷ 9 ∷ 6 ∷ 7 ∷ 6 ∷ 5 ∷ 7 ∷ 7 ∷ 6 ∷ 8 ∷ 7 ∷ 6 ∷ 8 ∷ 7 ∷ 9 ∷ 7 ∷ 8 ∷ 4 ∷ 5 ∷ 5 ∷ 2 ∷ []
+lengths = 0 ∷ 8 ∷ 9 ∷ 6 ∷ 7 ∷ 6 ∷ 5 ∷ 7 ∷ 7 ∷ 6 ∷ 8 ∷ 7 ∷ 6 ∷ 8 ∷ 7 ∷ 9 ∷ 7 ∷ 8 ∷ 4 ∷ 5 ∷ 5 ∷ 2 ∷ 5 ∷ 3 ∷ []
 
 unfoldable pub listing-length : ℕ → ℕ
 listing-length kind = getD lengths kind 0
 
 -- the names in each row of the table, which its second byte counts
 abbrev pub rows : List ℕ
-rows = 0 ∷ 16 ∷ 16 ∷ 4 ∷ 2 ∷ 2 ∷ 5 ∷ 3 ∷ 4 ∷ 2 ∷ 2 ∷ 4 ∷ 4 ∷ 8 ∷ 8 ∷ 2 ∷ 4 ∷ 2 ∷ 2 ∷ 2 ∷ []
+rows = 0 ∷ 16 ∷ 16 ∷ 4 ∷ 2 ∷ 2 ∷ 5 ∷ 3 ∷ 4 ∷ 2 ∷ 2 ∷ 4 ∷ 4 ∷ 8 ∷ 8 ∷ 2 ∷ 4 ∷ 2 ∷ 2 ∷ 2 ∷ 0 ∷ 0 ∷ 2 ∷ []
 
 unfoldable pub names : ℕ → ℕ
 names kind = getD rows kind 0
@@ -226,10 +226,23 @@ if-then-from r = IfThen (record {
 abbrev pub nop-from : List ℕ → Record
 nop-from r = Nop (form (byte r 1))
 
+-- order 1: "kind 16 (TBB, TBH; form, Rn, Rm, ..)"
+unfoldable pub table-branch-from : List ℕ → Record
+table-branch-from r = TableBranch (record {
+  op = table-op (byte r 1);
+  form = form (byte r 2);
+  rn = byte r 3;
+  rm = byte r 4;
+})
+
+-- order 1: "kind 17 .. (body: that number, 2 bytes)"
+abbrev pub filler-from : List ℕ → Record
+filler-from r = Filler (half r 1)
+
 -- how each kind is read
 abbrev pub readings : List (List ℕ → Record)
 readings =
-    nop-from ∷ shifted-register-from ∷ constant-from ∷ register-shift-from ∷ add-number-from ∷ move-number-from ∷ unary-from ∷ multiply-from ∷ long-multiply-from ∷ divide-from ∷ saturate-from ∷ bit-field-from ∷ extend-from ∷ access-from ∷ indexed-access-from ∷ dual-access-from ∷ multiple-access-from ∷ branch-from ∷ register-branch-from ∷ compare-branch-from ∷ if-then-from ∷ []
+    nop-from ∷ shifted-register-from ∷ constant-from ∷ register-shift-from ∷ add-number-from ∷ move-number-from ∷ unary-from ∷ multiply-from ∷ long-multiply-from ∷ divide-from ∷ saturate-from ∷ bit-field-from ∷ extend-from ∷ access-from ∷ indexed-access-from ∷ dual-access-from ∷ multiple-access-from ∷ branch-from ∷ register-branch-from ∷ compare-branch-from ∷ if-then-from ∷ nop-from ∷ table-branch-from ∷ filler-from ∷ []
 
 -- the record that the bytes r are, by their kind
 unfoldable pub record-of : List ℕ → Record

@@ -3,8 +3,8 @@
 ghost use mathlib.Core.Path.{_≡_};
 ghost use mathlib.Core.List.{[], _∷_};
 ghost use Rattle.little.specs.Little.{number-at};
-ghost use Rattle.record.specs.declared.Record.the-variants.{ShiftedRegister, Constant, RegisterShift, AddNumber, MoveNumber, Unary, Multiply, LongMultiply, Divide, Saturate, BitField, Extend, Access, IndexedAccess, DualAccess, MultipleAccess, Branch, RegisterBranch, CompareBranch, IfThen};
-ghost use Rattle.kinds.specs.Kinds.{nine, listing-length, names, form, record-of, shifted-register-from, constant-from, register-shift-from, add-number-from, move-number-from, unary-from, multiply-from, long-multiply-from, divide-from, saturate-from, bit-field-from, extend-from, access-from, indexed-access-from, dual-access-from, multiple-access-from, branch-from, register-branch-from, compare-branch-from, if-then-from};
+ghost use Rattle.record.specs.declared.Record.the-variants.{ShiftedRegister, Constant, RegisterShift, AddNumber, MoveNumber, Unary, Multiply, LongMultiply, Divide, Saturate, BitField, Extend, Access, IndexedAccess, DualAccess, MultipleAccess, Branch, RegisterBranch, CompareBranch, IfThen, TableBranch};
+ghost use Rattle.kinds.specs.Kinds.{nine, listing-length, names, form, record-of, shifted-register-from, constant-from, register-shift-from, add-number-from, move-number-from, unary-from, multiply-from, long-multiply-from, divide-from, saturate-from, bit-field-from, extend-from, access-from, indexed-access-from, dual-access-from, multiple-access-from, branch-from, register-branch-from, compare-branch-from, if-then-from, table-branch-from};
 use record::AccessFields;
 use record::AddNumberFields;
 use record::BitFieldFields;
@@ -26,6 +26,7 @@ use record::RegisterBranchFields;
 use record::RegisterShiftFields;
 use record::SaturateFields;
 use record::ShiftedRegisterFields;
+use record::TableBranchFields;
 use record::UnaryFields;
 
 // The record that the bytes are, by their kind.
@@ -55,6 +56,9 @@ pub fn record_from(r: [u8; 9]) -> Record
         18 => Record::RegisterBranch(register_branch_from(r)),
         19 => Record::CompareBranch(compare_branch_from(r)),
         20 => Record::IfThen(if_then_from(r)),
+        21 => Record::Nop(form_of(r[1])),
+        22 => Record::TableBranch(table_branch_from(r)),
+        23 => Record::Filler(half_of(r[1], r[2])),
         _ => Record::Nop(form_of(r[1])),
     }
 }
@@ -324,8 +328,19 @@ fn if_then_from(r: [u8; 9]) -> IfThenFields
     }
 }
 
+fn table_branch_from(r: [u8; 9]) -> TableBranchFields
+    ensures { λ t. ⌜ TableBranch t ≡ table-branch-from r ⌝ }
+{
+    TableBranchFields {
+        op: record::op::table_op_of(r[1]),
+        form: form_of(r[2]),
+        rn: r[3],
+        rm: r[4],
+    }
+}
+
 // By the kind: the bytes of a record, and the names in its row of the table.
-const LENGTHS: [u8; 22] = [
+const LENGTHS: [u8; 24] = [
     0,
     8,
     9,
@@ -348,16 +363,42 @@ const LENGTHS: [u8; 22] = [
     5,
     5,
     2,
+    5,
+    3,
 ];
 
-const NAMES: [u8; 20] = [0, 16, 16, 4, 2, 2, 5, 3, 4, 2, 2, 4, 4, 8, 8, 2, 4, 2, 2, 2];
+const NAMES: [u8; 23] = [
+    0,
+    16,
+    16,
+    4,
+    2,
+    2,
+    5,
+    3,
+    4,
+    2,
+    2,
+    4,
+    4,
+    8,
+    8,
+    2,
+    4,
+    2,
+    2,
+    2,
+    0,
+    0,
+    2,
+];
 
 // The listing bytes of a kind, 0 of one that there is not.
 pub fn listing_length_of(kind: u8) -> u8
     ensures { λ n. ⌜ n ≡ listing-length kind ⌝ }
 {
     let at = kind as usize;
-    if at < 22 {
+    if at < 24 {
         return LENGTHS[at];
     }
     0
@@ -367,7 +408,7 @@ pub fn names_of(kind: u8) -> u8
     ensures { λ n. ⌜ n ≡ names kind ⌝ }
 {
     let at = kind as usize;
-    if at < 20 {
+    if at < 23 {
         return NAMES[at];
     }
     0

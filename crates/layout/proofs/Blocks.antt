@@ -1,7 +1,7 @@
 -- Blocks along the layout: the conditions that wait at a point are a good list; where none is counted nothing waits.
 use Prim.Native.Nat.{ℕ, _≤_}
-use mathlib.Core.Path.{_≡_, ap}
-use mathlib.Core.Bool.{true, not, _&&_, _||_}
+use mathlib.Core.Path.{_≡_, refl, ap}
+use mathlib.Core.Bool.{Bool, true, false, not, _&&_, _||_}
 use mathlib.Core.List.{List}
 use native.Mathlib.Omega.{arith}
 use borrow.Author.Tests.{eqb-true, eq-eqb, leb-true, leb-false}
@@ -15,12 +15,13 @@ use Rattle.record.specs.declared.Record.{Record}
 use Rattle.record.specs.declared.Record.the-variants.{IfThen}
 use Rattle.fields.specs.Fields.{well-formed, elses-fit}
 use Rattle.restricted.specs.Restricted.{allowed}
-use Rattle.flow.specs.Flow.{traits, after, leaves, way, misplaced}
-use Rattle.flow.proofs.Laws.{after-holds}
+use Rattle.flow.specs.Flow.{traits, after, leaves, fills, way, misplaced}
+use Rattle.flow.proofs.Laws.{after-holds, leaves-no-filler}
 use Rattle.reading.proofs.Places.{ahead}
+use Rattle.judge.specs.Judge.{refusal}
 use Rattle.judge.proofs.Laws.{not-refused}
 use Rattle.layout.specs.declared.Point.{Point}
-use Rattle.layout.specs.Layout.{Onward, start, next, meets}
+use Rattle.layout.specs.Layout.{Met, Onward, AtEnd, Refusal, start, free, next, refusal-at, meets, filled}
 use Rattle.layout.proofs.Points.{onto}
 use Rattle.layout.proofs.Members.{On, on-holds}
 
@@ -43,20 +44,49 @@ no-else d e c =
     let f : (not (eqb (d .condition) 14) || eqb (d .elses) 0) ≡ true = e in
     eqb-true (d .elses) 0 (rw (eq-eqb (d .condition) 14 c) at f)
 
+block-steps : (d : IfThenFields) → fills (way (IfThen d)) ≡ false
+unfolding fills way traits
+block-steps d = refl
+
 module _ (listing : List ℕ) (p : Point) (r : Record) (q : Point) (e : meets listing p ≡ Onward r q) where
+  -- a record that is no filler stands where 3 and 4 leave it, alone as well
+  pub unrefused : fills (way r) ≡ false → refusal r (waiting-count (p .waiting)) ≡ 0
+  unfolding refusal-at
+  unrefused s = rw s at (onto listing p r q e .stands)
+
   -- within a block the rest of it waits, and after an IT record its block
   pub waits-after : q .waiting ≡ after r (p .waiting)
   unfolding next
   waits-after = ap (λ (x : Point). x .waiting) (onto listing p r q e .reached)
 
+  -- a filler may stand next where the record lets it, outside a block
+  pub parted-after : q .parted ≡ (traits r .parts && free p)
+  unfolding next
+  parted-after = ap (λ (x : Point). x .parted) (onto listing p r q e .reached)
+
   still-good : Good (p .waiting) → Good (q .waiting)
   still-good h =
       let o = onto listing p r q e in
       let formed = ahead listing (p .place .0) r (q .place) (o .read) .formed in
-      let free = not-refused r (waiting-count (p .waiting)) (o .stands) .0 in
       rw waits-after
       (after-holds Good r (p .waiting) (good-dropped (p .waiting) h)
-      (λ d f. good-block (d .condition) (d .count) (d .elses) (condition-known d (rw f at formed)) (no-else d (rw f at free))))
+      (λ d f.
+      let free = not-refused r (waiting-count (p .waiting)) (unrefused (rw f (block-steps d))) .0 in
+      good-block (d .condition) (d .count) (d .elses) (condition-known d (rw f at formed)) (no-else d (rw f at free))))
+
+-- no filler stands where none may
+pub unparted : (listing : List ℕ) (p : Point) → p .parted ≡ false → filled (meets listing p) ≡ false
+unfolding filled refusal-at
+unparted listing p f = go (meets listing p) refl
+  where
+    number : (r : Record) (t : Bool) → fills (way r) ≡ t → refusal-at r p ≡ 0 → t ≡ false
+    number r true t e = let n : _≡_ {A = ℕ} 4 0 = rw (t, f) at e in absurd (omega arith)
+    number r false t e = refl
+
+    go : (t : Met) → meets listing p ≡ t → filled t ≡ false
+    go (Onward r q) e = number r (fills (way r)) refl (onto listing p r q e .stands)
+    go AtEnd e = refl
+    go (Refusal number) e = refl
 
 module _ (listing : List ℕ) (base : ℕ) (p : Point) (o : On listing base p) where
   pub on-good : Good (p .waiting)
@@ -71,6 +101,6 @@ module _ (listing : List ℕ) (base : ℕ) (p : Point) (o : On listing base p) w
   unfolding misplaced
   leaves-last r q e l =
       let n = waiting-count (p .waiting) in
-      let spot = not-refused r n (onto listing p r q e .stands) .1 in
+      let spot = not-refused r n (unrefused listing p r q e (leaves-no-filler (way r) l)) .1 in
       let two = neither (traits r .alone && leb 1 n) (leaves (way r) && leb 2 n) spot .1 in
       one-waits (p .waiting) on-good (omega (arith, leb-false 2 n (rw l at two)))

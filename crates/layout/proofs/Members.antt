@@ -10,6 +10,7 @@ use lib.ListN.{length}
 use Rattle.word.specs.Choice.{if_then_else_}
 use Rattle.word.proofs.Cases.{cases}
 use Rattle.record.specs.declared.Record.{Record}
+use Rattle.flow.specs.Flow.{way, fills}
 use Rattle.layout.specs.declared.Point.{Point}
 use Rattle.layout.specs.declared.Sought.{Sought}
 use Rattle.layout.specs.declared.Sought.the-variants.{At, Nowhere}
@@ -127,6 +128,7 @@ module _ (listing : List ℕ) (base : ℕ) where
     pub at : p .address .0 ≡ address
     pub next : Point
     pub goes : meets listing p ≡ Onward r next
+    pub steps : fills (way r) ≡ false
 
   pub record Ending (address : ℕ) : Type 0 where
     pub point : Point
@@ -140,10 +142,14 @@ module _ (listing : List ℕ) (base : ℕ) where
     stands-on r p = found (sought address (layout listing base)) refl
       where
         met : (q : Point) → On listing base q × (q .address .0 ≡ address) → (t : Met) → meets listing q ≡ t → standing t q ≡ Stands r p → Standing address r p
-        met q m (Onward x y) e f =
-            let same : q ≡ p = cc in
-            let this : x ≡ r = cc in
-            rw (← same, ← this) (record { on = m .0; at = m .1; next = y; goes = e })
+        met q m (Onward x y) e f = go (fills (way x)) refl f
+          where
+            go : (t : Bool) → fills (way x) ≡ t → _≡_ {A = AtAddress} (if t then Stray else Stands x q) (Stands r p) → Standing address r p
+            go true t f = let z : _≡_ {A = ℕ} 0 1 = cc in absurd (omega arith)
+            go false t f =
+                let same : q ≡ p = cc in
+                let this : x ≡ r = cc in
+                rw (← same, ← this) (record { on = m .0; at = m .1; next = y; goes = e; steps = t })
         met q m AtEnd e f = let z : _≡_ {A = ℕ} 0 1 = cc in absurd (omega arith)
         met q m (Refusal number) e f = let z : _≡_ {A = ℕ} 0 1 = cc in absurd (omega arith)
 
@@ -156,7 +162,11 @@ module _ (listing : List ℕ) (base : ℕ) where
     ends-on = found (sought address (layout listing base)) refl
       where
         met : (q : Point) → On listing base q × (q .address .0 ≡ address) → (t : Met) → meets listing q ≡ t → standing t q ≡ End → Ending address
-        met q m (Onward x y) e f = let z : _≡_ {A = ℕ} 0 1 = cc in absurd (omega arith)
+        met q m (Onward x y) e f = go (fills (way x)) f
+          where
+            go : (t : Bool) → _≡_ {A = AtAddress} (if t then Stray else Stands x q) End → Ending address
+            go true f = let z : _≡_ {A = ℕ} 0 1 = cc in absurd (omega arith)
+            go false f = let z : _≡_ {A = ℕ} 0 1 = cc in absurd (omega arith)
         met q m AtEnd e f = record { point = q; on = m .0; at = m .1; ends = e }
         met q m (Refusal number) e f = let z : _≡_ {A = ℕ} 0 1 = cc in absurd (omega arith)
 

@@ -1,35 +1,36 @@
 -- The walk along a listing: what it meets, and where its points stand.
-use Prim.Native.Nat.{ℕ, zero, suc, _+_, _-_, _*_, _%_, _≤_, _<_}
+use Prim.Native.Nat.{ℕ, zero, suc, _+_, _-_, _*_, _%_, _^_, _≤_, _<_}
 use mathlib.Core.Path.{_≡_, refl, sym, ap, _∙_}
-use mathlib.Core.Bool.{Bool, true, false}
+use mathlib.Core.Bool.{Bool, true, false, _&&_}
 use mathlib.Core.List.{List, [], _∷_}
 use native.Mathlib.Omega.{arith}
-use borrow.Author.Tests.{eqb-true, eqb-false}
-use lib.Dec.{eqb}
+use borrow.Author.Tests.{eqb-true, eqb-false, leb-true}
+use lib.Dec.{eqb, leb}
 use lib.ListN.{length}
 use Rattle.word.specs.Choice.{if_then_else_}
-use Rattle.waiting.specs.Waiting.{waiting-count}
+use Rattle.word.proofs.Cases.{both-true}
 use Rattle.record.specs.declared.Record.{Record}
+use Rattle.record.specs.declared.Record.the-variants.{Filler}
+use Rattle.fields.specs.Fields.{well-formed}
 use Rattle.flow.specs.Flow.{machine-length}
-use Rattle.flow.proofs.Laws.{machine-bytes}
+use Rattle.flow.proofs.Laws.{Lengths, machine-bytes}
 use Rattle.reading.specs.declared.Place.{Place}
 use Rattle.reading.specs.declared.ReadAt.{ReadAt}
 use Rattle.reading.specs.declared.ReadAt.the-variants.{Found, Nothing}
 use Rattle.reading.specs.Reading.{read-at}
 use Rattle.reading.proofs.Places.{ahead}
-use Rattle.judge.specs.Judge.{refusal}
 use Rattle.layout.specs.declared.Point.{Point}
-use Rattle.layout.specs.Layout.{Met, Onward, AtEnd, Refusal, start, next, judged-at, meets, followed, walk}
+use Rattle.layout.specs.Layout.{Met, Onward, AtEnd, Refusal, start, next, refusal-at, judged-at, meets, followed, walk}
 
 -- what a record and the point after it say of a point
 pub record Onto (listing : List ℕ) (p : Point) (r : Record) (q : Point) : Type 0 where
   pub inside : p .place .0 ≡ length listing → ⊥
   pub read : read-at listing (p .place .0) ≡ Found r (q .place)
-  pub stands : refusal r (waiting-count (p .waiting)) ≡ 0
+  pub stands : refusal-at r p ≡ 0
   pub reached : q ≡ next r (q .place) p
 
 module _ (listing : List ℕ) (p : Point) where
-  judged-onto : (t : Bool) (r : Record) (place : Place) (number : ℕ) → eqb number 0 ≡ t → refusal r (waiting-count (p .waiting)) ≡ number
+  judged-onto : (t : Bool) (r : Record) (place : Place) (number : ℕ) → eqb number 0 ≡ t → refusal-at r p ≡ number
       → read-at listing (p .place .0) ≡ Found r place → (p .place .0 ≡ length listing → ⊥)
       → (s : Record) (q : Point) → _≡_ {A = Met} (if t then Onward r (next r place p) else Refusal number) (Onward s q) → Onto listing p s q
   unfolding next
@@ -43,7 +44,7 @@ module _ (listing : List ℕ) (p : Point) where
       → (r : Record) (q : Point) → judged-at x p ≡ Onward r q → Onto listing p r q
   unfolding judged-at
   read-onto (Found r place) f i s q e =
-      let n = refusal r (waiting-count (p .waiting)) in judged-onto (eqb n 0) r place n refl refl f i s q e
+      let n = refusal-at r p in judged-onto (eqb n 0) r place n refl refl f i s q e
   read-onto Nothing f i s q e = let z : _≡_ {A = ℕ} 0 1 = cc in absurd (omega arith)
 
   pub onto : (r : Record) (q : Point) → meets listing p ≡ Onward r q → Onto listing p r q
@@ -61,7 +62,7 @@ module _ (listing : List ℕ) (p : Point) where
   judged-refused (Found r place) number e z = go (eqb n 0) refl e
     where
       n : ℕ
-      n = refusal r (waiting-count (p .waiting))
+      n = refusal-at r p
 
       go : (t : Bool) → eqb n 0 ≡ t → _≡_ {A = Met} (if t then Onward r (next r place p) else Refusal n) (Refusal number) → ⊥
       go true t f = let y : _≡_ {A = ℕ} 0 1 = cc in omega arith
@@ -76,12 +77,12 @@ module _ (listing : List ℕ) (p : Point) where
       go true e z = let y : _≡_ {A = ℕ} 0 1 = cc in omega arith
       go false e z = judged-refused (read-at listing (p .place .0)) number e z
 
--- the places and addresses that the walk can come to: a record of 2 listing bytes has at most 4 machine bytes
+-- the places and addresses that the walk can come to: a record has at least 2 listing bytes and less than 2^16 machine bytes
 pub record Within (listing : List ℕ) (base : ℕ) (p : Point) : Type 0 where
   pub inside : p .place .0 ≤ length listing
   pub from : base ≤ p .address .0
   pub even : (p .address .0 - base) % 2 ≡ 0
-  pub to : p .address .0 ≤ base + 2 * p .place .0
+  pub to : p .address .0 ≤ base + 2 ^ 15 * p .place .0
 
 pub within-start : (listing : List ℕ) (base : ℕ) → Within listing base (start base)
 unfolding start
@@ -95,7 +96,24 @@ pub record Rises (p q : Point) : Type 0 where
 still-even : (base a n : ℕ) → base ≤ a → (a - base) % 2 ≡ 0 → n % 2 ≡ 0 → (a + n - base) % 2 ≡ 0
 still-even base a n h e f = omega arith
 
+-- the number of a filler that was read
+filler-length : (number : ℕ) → well-formed (Filler number) ≡ true → Lengths number
+unfolding well-formed
+filler-length number h =
+    let few = both-true (leb 2 number && leb number 65534) (eqb (number % 2) 0) h in
+    let ends = both-true (leb 2 number) (leb number 65534) (few .0) in
+    record {
+      low = leb-true 2 number (ends .0);
+      high = leb-true number 65534 (ends .1);
+      even = eqb-true (number % 2) 0 (few .1);
+    }
+
 module _ (listing : List ℕ) (p : Point) (r : Record) (q : Point) (e : meets listing p ≡ Onward r q) where
+  pub next-length : Lengths (machine-length r)
+  next-length =
+      let formed = ahead listing (p .place .0) r (q .place) (onto listing p r q e .read) .formed in
+      machine-bytes r (λ number f. filler-length number (rw f at formed))
+
   pub next-address : q .address .0 ≡ p .address .0 + machine-length r
   unfolding next
   next-address = ap (λ (q : Point). q .address .0) (onto listing p r q e .reached)
@@ -104,18 +122,18 @@ module _ (listing : List ℕ) (p : Point) (r : Record) (q : Point) (e : meets li
   rises =
       let g = onto listing p r q e in
       let a = ahead listing (p .place .0) r (q .place) (g .read) in
-      let n = machine-bytes r in
+      let n = next-length in
       record { places = omega arith; addresses = omega (arith, next-address) }
 
   pub within-next : (base : ℕ) → Within listing base p → Within listing base q
   within-next base w =
       let g = onto listing p r q e in
       let a = ahead listing (p .place .0) r (q .place) (g .read) in
-      let n = machine-bytes r in
+      let n = next-length in
       record {
         inside = a .inside;
         from = omega (arith, next-address);
-        even = rw next-address (still-even base (p .address .0) (machine-length r) (w .from) (w .even) (n .2));
+        even = rw next-address (still-even base (p .address .0) (machine-length r) (w .from) (w .even) (n .even));
         to = omega (arith, next-address);
       }
 

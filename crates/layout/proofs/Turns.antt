@@ -1,28 +1,49 @@
 -- What the code sees at a point says what stands there, and how a loop over the points goes on.
 use Prim.Native.Nat.{ℕ, zero, suc, _+_, _-_, _%_, _^_, _≤_, _<_}
 use mathlib.Core.Path.{_≡_, refl, sym, ap, _∙_}
-use mathlib.Core.Bool.{Bool, true, false}
+use mathlib.Core.Bool.{Bool, true, false, not, _&&_}
 use mathlib.Core.List.{List, [], _∷_}
 use native.Mathlib.Omega.{arith}
 use native.Mathlib.Nat.{mod-eq-of-lt}
 use borrow.Author.Tests.{ne-eqb}
 use lib.Dec.{eqb}
+use Rattle.word.specs.Choice.{if_then_else_}
 use Rattle.record.specs.declared.Record.{Record}
 use Rattle.flow.specs.declared.Way.{Way}
-use Rattle.flow.specs.Flow.{way}
-use Rattle.flow.proofs.Laws.{machine-bytes}
+use Rattle.flow.specs.Flow.{way, fills}
+use Rattle.reading.specs.declared.Place.{Place}
+use Rattle.reading.specs.declared.ReadAt.the-variants.{Found}
 use Rattle.layout.specs.declared.Point.{Point}
 use Rattle.layout.specs.declared.Seen.{Seen}
 use Rattle.layout.specs.declared.Seen.the-variants.{Goes, Ends, Stops}
 use Rattle.layout.specs.declared.Sought.{Sought}
 use Rattle.layout.specs.declared.Sought.the-variants.{At, Nowhere}
-use Rattle.layout.specs.Layout.{Met, Onward, AtEnd, Refusal, meets, followed, walk, sought}
-use Rattle.layout.specs.Code.{in-64-bits, seen}
-use Rattle.layout.proofs.Points.{next-address, rises, walk-from, walk-on, walk-end, walk-refused, walk-none}
+use Rattle.layout.specs.declared.AtAddress.the-variants.{Stands, Stray}
+use Rattle.layout.specs.Layout.{Met, Onward, AtEnd, Refusal, next, refusal-at, judged-at, meets, followed, walk, sought, filled, standing}
+use Rattle.layout.specs.Code.{in-64-bits, seen, seen-filled}
+use Rattle.layout.proofs.Points.{next-length, next-address, rises, walk-from, walk-on, walk-end, walk-refused, walk-none}
 
 kept-whole : (p : Point) → p .address .0 < 2 ^ 64 → in-64-bits p ≡ p
 unfolding in-64-bits
 kept-whole p h = rw (mod-eq-of-lt h)
+
+pub seen-as : (t : Met) → seen-filled (seen t) ≡ filled t
+unfolding seen seen-filled filled
+seen-as (Onward r q) = refl
+seen-as AtEnd = refl
+seen-as (Refusal number) = refl
+
+-- what is held at a point: a record that may stand there and is no filler
+pub held-there : (r : Record) (place : Place) (p : Point)
+    → standing (judged-at (Found r place) p) p ≡ (if eqb (refusal-at r p) 0 && not (fills (way r)) then Stands r p else Stray)
+unfolding judged-at standing
+held-there r place p = go (eqb (refusal-at r p) 0) (fills (way r)) refl
+  where
+    go : (a f : Bool) → fills (way r) ≡ f
+        → standing (if a then Onward r (next r place p) else Refusal (refusal-at r p)) p ≡ (if a && not f then Stands r p else Stray)
+    go true true e = rw e
+    go true false e = rw e
+    go false f e = refl
 
 -- ---- a record was seen, and where it goes
 pub record Passed (listing : List ℕ) (p : Point) (w : Way) (q : Point) : Type 0 where
@@ -38,7 +59,7 @@ module _ (listing : List ℕ) (p : Point) (t : Seen) (is : t ≡ seen (meets lis
       go : (m : Met) → meets listing p ≡ m → seen m ≡ Goes w q → Passed listing p w q
       go (Onward r s) f g =
           let n = next-address listing p r s f in
-          let whole = kept-whole s (omega (arith, machine-bytes r)) in
+          let whole = kept-whole s (omega (arith, next-length listing p r s f)) in
           let same : in-64-bits s ≡ q = cc in
           record { what = r; leads = cc; goes = f ∙ ap (Onward r) (sym whole ∙ same) }
       go AtEnd f g = let z : _≡_ {A = ℕ} 0 1 = cc in absurd (omega arith)

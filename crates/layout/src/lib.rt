@@ -1,8 +1,8 @@
 // The layout of a listing: the walk along its records, and the search for an address.
 
 ghost use mathlib.Core.Path.{_≡_};
-ghost use Rattle.layout.specs.Layout.{start, judged-at, meets, layout, sought, standing, standing-at, at-address};
-ghost use Rattle.layout.specs.Code.{in-64-bits, passed, seen};
+ghost use Rattle.layout.specs.Layout.{start, free, refusal-at, judged-at, meets, layout, sought, standing, standing-at, at-address};
+ghost use Rattle.layout.specs.Code.{in-64-bits, passed, seen, seen-filled};
 ghost use Rattle.reading.specs.declared.ReadAt.the-variants.{Found};
 use flow::Traits;
 use flow::Way;
@@ -19,6 +19,8 @@ pub struct Point {
     pub place: Place,
     pub address: Address,
     pub waiting: Waiting,
+    // may a filler stand here?
+    pub parted: bool,
 }
 
 // What a pass takes from a point.
@@ -50,7 +52,14 @@ pub fn start_of(base: u32) -> Point
         place: Place(0),
         address: Address(base as u64),
         waiting: Waiting::nothing(),
+        parted: true,
     }
+}
+
+pub fn is_free(point: Point) -> bool
+    ensures { λ r. ⌜ r ≡ free point ⌝ }
+{
+    point.waiting.count() == 0
 }
 
 pub fn see(listing: &[u8], point: Point) -> Seen
@@ -70,7 +79,7 @@ pub fn see(listing: &[u8], point: Point) -> Seen
 fn see_record(r: Record, place: Place, point: Point) -> Seen
     ensures { λ t. ⌜ t ≡ seen (judged-at (Found r place) point) ⌝ }
 {
-    let number = judge::refusal_of(r, point.waiting.count());
+    let number = refusal_at(r, point);
     let stands = number == 0;
     if stands {
         let t = flow::traits_of(r);
@@ -78,6 +87,16 @@ fn see_record(r: Record, place: Place, point: Point) -> Seen
         return Seen::Goes(way, next_of(t, place, point));
     }
     Seen::Stops(number)
+}
+
+fn refusal_at(r: Record, point: Point) -> u32
+    ensures { λ n. ⌜ n ≡ refusal-at r point ⌝ }
+{
+    let fills = flow::fills_of(flow::way_of(r));
+    if fills {
+        return if point.parted { 0 } else { 4 };
+    }
+    judge::refusal_of(r, point.waiting.count())
 }
 
 fn next_of(t: Traits, place: Place, point: Point) -> Point
@@ -88,6 +107,18 @@ fn next_of(t: Traits, place: Place, point: Point) -> Point
         place: place,
         address: Address(std::num::wrapping_add_u64(point.address.0, t.length as u64)),
         waiting: flow::opened_of(opens, point.waiting),
+        parted: t.parts & is_free(point),
+    }
+}
+
+// Was it a filler that was seen?
+pub fn is_filled(t: Seen) -> bool
+    ensures { λ r. ⌜ r ≡ seen-filled t ⌝ }
+{
+    match t {
+        Seen::Goes(w, _) => flow::fills_of(w),
+        Seen::Ends => false,
+        Seen::Stops(_) => false,
     }
 }
 
@@ -144,7 +175,8 @@ fn hold(listing: &[u8], point: Point) -> AtAddress
 fn hold_record(r: Record, place: Place, point: Point) -> AtAddress
     ensures { λ t. ⌜ t ≡ standing (judged-at (Found r place) point) point ⌝ }
 {
-    let stands = judge::refusal_of(r, point.waiting.count()) == 0;
+    let number = refusal_at(r, point);
+    let stands = (number == 0) & !flow::fills_of(flow::way_of(r));
     if stands {
         return AtAddress::Stands(r, point);
     }

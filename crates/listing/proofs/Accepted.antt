@@ -5,7 +5,7 @@ use mathlib.Core.Bool.{Bool, true, false, false≢true, not, _&&_, _||_}
 use mathlib.Core.Logic.{_⊎_, inl, inr}
 use mathlib.Core.List.{List, [], _∷_, List·Memᴰ, List·Memᴰ·head, List·Memᴰ·tail, List·Memᴰ·not-nil, List·Memᴰ·cases-cons}
 use native.Mathlib.Omega.{arith}
-use borrow.Author.Tests.{eqb-true, eqb-false, ltb-false, not-false}
+use borrow.Author.Tests.{eqb-true, eqb-false, ltb-false, not-true}
 use lib.Dec.{eqb, ltb}
 use lib.IntN.{ℤ}
 use lib.ListN.{length}
@@ -17,12 +17,12 @@ use Rattle.record.specs.declared.Record.{Record}
 use Rattle.flow.specs.Flow.{way, target}
 use Rattle.flow.specs.declared.Way.the-variants.{Direct}
 use Rattle.layout.specs.declared.Point.{Point}
-use Rattle.layout.specs.Layout.{Met, Onward, AtEnd, Refusal, meets, layout}
+use Rattle.layout.specs.Layout.{Met, Onward, AtEnd, Refusal, free, meets, layout, filled}
 use Rattle.layout.proofs.Points.{refused-number, rises}
 use Rattle.layout.proofs.Members.{On, on-within, next-on}
 use Rattle.layout.proofs.Blocks.{nothing-waits}
 use Rattle.listing.specs.declared.Checked.{Checked}
-use Rattle.listing.specs.Check.{report, lowest, free, end-fault, fault, lands-at, lands, landing, astray, branch-fault, first-pass, second-pass, checked}
+use Rattle.listing.specs.Check.{report, lowest, end-fault, fault, lands-here, lands-at, lands, landing, astray, branch-fault, first-pass, second-pass, checked}
 
 abbrev pub Accepted : List ℕ → ℕ → Type 0
 Accepted listing base = checked listing base .number ≡ 0
@@ -49,17 +49,19 @@ lowest-place P none number (q ∷ ps) each = go (lowest-place P none number ps (
     go rest true = rest
     go rest false = each q (List·Memᴰ·head refl)
 
-record Landed (address : ℕ) (ps : List Point) : Type 0 where
+record Landed (listing : List ℕ) (address : ℕ) (ps : List Point) : Type 0 where
   point : Point
   member : List·Memᴰ point ps
-  at : lands-at address point ≡ true
+  at : lands-at listing address point ≡ true
 
-landed : (address : ℕ) (ps : List Point) → lands address ps ≡ true → Landed address ps
+landed : (listing : List ℕ) (address : ℕ) (ps : List Point) → lands listing address ps ≡ true → Landed listing address ps
 unfolding lands
-landed address [] e = absurd (false≢true e)
-landed address (q ∷ ps) e = go (λ f. landed address ps f) (either-true (lands-at address q) (lands address ps) e)
+landed listing address [] e = absurd (false≢true e)
+landed listing address (q ∷ ps) e =
+    go (λ f. landed listing address ps f) (either-true (lands-at listing address q) (lands listing address ps) e)
   where
-    go : (lands address ps ≡ true → Landed address ps) → (lands-at address q ≡ true) ⊎ (lands address ps ≡ true) → Landed address (q ∷ ps)
+    go : (lands listing address ps ≡ true → Landed listing address ps)
+        → (lands-at listing address q ≡ true) ⊎ (lands listing address ps ≡ true) → Landed listing address (q ∷ ps)
     go rest (inl f) = record { point = q; member = List·Memᴰ·head refl; at = f }
     go rest (inr f) = let l = rest f in record { point = l .point; member = List·Memᴰ·tail (l .member); at = l .at }
 
@@ -153,6 +155,7 @@ pub record Landing (listing : List ℕ) (base address : ℕ) : Type 0 where
   pub on : On listing base point
   pub at : point .address .0 ≡ address
   pub waits : point .waiting ≡ nothing
+  pub steps : filled (meets listing point) ≡ false
 
 module _ (listing : List ℕ) (base : ℕ) (ok : Accepted listing base) where
   sound : first-pass listing base .number ≡ 0
@@ -185,10 +188,10 @@ module _ (listing : List ℕ) (base : ℕ) (ok : Accepted listing base) where
   pub on-even : (p : Point) → On listing base p → p .address .0 % 2 ≡ 0
   on-even p o = let w = on-within listing base p o in omega (arith, even-base)
 
-  -- a direct branch leads to a point where nothing waits
+  -- a direct branch leads to a point where nothing waits and no filler stands
   pub branch-lands : (p : Point) → On listing base p → (r : Record) (q : Point) → meets listing p ≡ Onward r q
       → (offset : ℤ) → way r ≡ Direct offset → Landing listing base (target (p .address .0) (Direct offset))
-  unfolding branch-fault astray landing
+  unfolding branch-fault astray landing lands-here
   branch-lands p o r q e offset f =
       let to = target (p .address .0) (Direct offset) in
       let n = rw (e, f) at (on-branch p o) in
@@ -200,11 +203,13 @@ module _ (listing : List ℕ) (base : ℕ) (ok : Accepted listing base) where
 
       found : (to : ℕ) → landing listing base to ≡ true → Landing listing base to
       found to t =
-          let l = landed to (layout listing base) t in
-          let b = both-true (eqb (l .point .address .0) to) (free (l .point)) (l .at) in
+          let l = landed listing to (layout listing base) t in
+          let b = both-true (eqb (l .point .address .0) to) (lands-here listing (l .point)) (l .at) in
+          let f = both-true (free (l .point)) (not (filled (meets listing (l .point)))) (b .1) in
           record {
             point = l .point;
             on = l .member;
             at = eqb-true (l .point .address .0) to (b .0);
-            waits = free-nothing (l .point) (l .member) (b .1);
+            waits = free-nothing (l .point) (l .member) (f .0);
+            steps = not-true (filled (meets listing (l .point))) (f .1);
           }

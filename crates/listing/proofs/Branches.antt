@@ -8,7 +8,7 @@ use lib.IntN.{ℤ}
 use Rattle.word.specs.Choice.{if_then_else_}
 use Rattle.flow.specs.Flow.{target}
 use Rattle.flow.specs.declared.Way.{Way}
-use Rattle.flow.specs.declared.Way.the-variants.{Next, Direct, Taken}
+use Rattle.flow.specs.declared.Way.the-variants.{Next, Direct, Taken, Fills}
 use Rattle.layout.specs.declared.Point.{Point}
 use Rattle.layout.specs.Layout.{meets, layout}
 use Rattle.layout.proofs.Turns.{Passed}
@@ -22,6 +22,7 @@ unfolding target
 target-mod address Next = refl
 target-mod address (Direct offset) = let e : (address % 2 ^ 32 + 4) % 2 ^ 32 ≡ (address + 4) % 2 ^ 32 = omega arith in rw e
 target-mod address Taken = refl
+target-mod address Fills = refl
 
 -- a direct branch is astray where its target is not found
 pub astray-by : (t : Table) (w : Way) (address to : ℕ) (found : Placed) (offset : ℤ) → to ≡ target (address % 2 ^ 32) w → w ≡ Direct offset
@@ -29,13 +30,13 @@ pub astray-by : (t : Table) (w : Way) (address to : ℕ) (found : Placed) (offse
 unfolding astray
 astray-by t w address to found offset e f g = rw (g, e, target-mod address w, f)
 
-place-lands : (address : ℕ) (ps : List Point) → there (landing-place address ps) ≡ lands address ps
+place-lands : (listing : List ℕ) (address : ℕ) (ps : List Point) → there (landing-place listing address ps) ≡ lands listing address ps
 unfolding landing-place lands
-place-lands address [] = refl
-place-lands address (p ∷ ps) = go (place-lands address ps) (lands-at address p)
+place-lands listing address [] = refl
+place-lands listing address (p ∷ ps) = go (place-lands listing address ps) (lands-at listing address p)
   where
-    go : there (landing-place address ps) ≡ lands address ps → (t : Bool)
-        → there (if t then At (p .place) else landing-place address ps) ≡ (t || lands address ps)
+    go : there (landing-place listing address ps) ≡ lands listing address ps → (t : Bool)
+        → there (if t then At (p .place) else landing-place listing address ps) ≡ (t || lands listing address ps)
     go rest true = refl
     go rest false = rest
 
@@ -44,6 +45,7 @@ unfolding astray
 astray-same f g same Next address = refl
 astray-same f g same (Direct offset) address = rw (same (target address (Direct offset)))
 astray-same f g same Taken address = refl
+astray-same f g same Fills address = refl
 
 -- the number of a record by the table
 pub branch-number : (listing : List ℕ) (base : ℕ) (t : Table) → Tells t listing base → (p : Point) (w : Way) (q : Point) → Passed listing p w q
@@ -51,5 +53,5 @@ pub branch-number : (listing : List ℕ) (base : ℕ) (t : Table) → Tells t li
 unfolding branch-fault landing
 branch-number listing base t tells p w q g off e =
     let same : (address : ℕ) → is-listed t address ≡ landing listing base address =
-    λ address. ap there (tells .all address) ∙ place-lands address (layout listing base) in
+    λ address. ap there (tells .all address) ∙ place-lands listing address (layout listing base) in
     rw (g .goes, ← g .leads, ← astray-same (is-listed t) (landing listing base) same w (p .address .0), ← e)

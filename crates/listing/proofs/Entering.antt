@@ -1,18 +1,17 @@
 -- A point more in the table of landing places: the addresses rise still, and it says what it said, and of the point.
 use Prim.Native.Nat.{ℕ, zero, suc, _+_, _≤_, _<_}
 use mathlib.Core.Path.{_≡_, refl, sym, ap, _∙_}
-use mathlib.Core.Bool.{true, and-true, and-false}
+use mathlib.Core.Bool.{Bool, true, false, _&&_, and-true, and-false}
 use mathlib.Core.List.{List}
 use native.Mathlib.Omega.{arith}
 use lib.Dec.{eqb}
 use lib.ListN.{length, getD, set, length-set}
 use lib.Seq.{getD-set-same, getD-set-other}
 use Rattle.word.specs.Choice.{if_then_else_}
-use Rattle.word.proofs.Cases.{cases, chosen, le-or-gt}
+use Rattle.word.proofs.Cases.{cases, le-or-gt}
 use Rattle.layout.specs.declared.Point.{Point}
 use Rattle.listing.specs.declared.landing.Placed.{Placed}
 use Rattle.listing.specs.declared.landing.Placed.the-variants.{At, Nowhere}
-use Rattle.listing.specs.Check.{free, lands-at}
 use Rattle.listing.specs.Code.{Table, table, Room, entered, or-else, among, looked-up, Below, Rising}
 
 pub or-nowhere : (x : Placed) → or-else x Nowhere ≡ x
@@ -38,13 +37,14 @@ module _ (addresses : List ℕ) (count new : ℕ) (room : count < length address
       (cases (le-or-gt count j) (λ n. let e : j ≡ count = omega arith in rw (e, the-new) (below i m)) (λ n. rw (as-before j n) (rising i j h n)))
 
 -- ---- a point more
-pub record One-more (p : Point) (t u : Table) : Type 0 where
+pub record One-more (lands : Bool) (p : Point) (t u : Table) : Type 0 where
   pub long : length (u .addresses) ≡ length (t .addresses)
   pub wide : length (u .places) ≡ length (t .places)
   pub count : u .count ≤ t .count + 1
   pub rising : Rising (u .addresses) (u .count)
   pub below : (bound : ℕ) → p .address .0 < bound → Below (u .addresses) (u .count) bound
-  pub says : (address : ℕ) → looked-up u address ≡ or-else (looked-up t address) (if lands-at address p then At (p .place) else Nowhere)
+  pub says : (address : ℕ)
+      → looked-up u address ≡ or-else (looked-up t address) (if eqb (p .address .0) address && lands then At (p .place) else Nowhere)
 
 module _ (p : Point) (t : Table) (room : Room t p) (rising : Rising (t .addresses) (t .count)) (below : Below (t .addresses) (t .count) (p .address .0)) where
   grown : Table
@@ -61,38 +61,37 @@ module _ (p : Point) (t : Table) (room : Room t p) (rising : Rising (t .addresse
         as-before (t .places) (t .count) (p .place .0) (room .places) k (omega arith),
       )
 
-  grown-says : free p ≡ true → (address : ℕ)
-      → looked-up grown address ≡ or-else (looked-up t address) (if lands-at address p then At (p .place) else Nowhere)
+  grown-says : (address : ℕ)
+      → looked-up grown address ≡ or-else (looked-up t address) (if eqb (p .address .0) address && true then At (p .place) else Nowhere)
   unfolding among grown
-  grown-says f address = let e : t .count + 1 ≡ suc (t .count) = omega arith in ap (λ (k : ℕ). among k grown address) e ∙ last
+  grown-says address = let e : t .count + 1 ≡ suc (t .count) = omega arith in ap (λ (k : ℕ). among k grown address) e ∙ last
     where
-      last : among (suc (t .count)) grown address ≡ or-else (looked-up t address) (if lands-at address p then At (p .place) else Nowhere)
+      last : among (suc (t .count)) grown address ≡ or-else (looked-up t address) (if eqb (p .address .0) address && true then At (p .place) else Nowhere)
       last =
           rw (
             among-before (t .count) address (omega arith),
             the-new (t .addresses) (t .count) (p .address .0) (room .addresses),
             the-new (t .places) (t .count) (p .place .0) (room .places),
-            f,
             and-true (eqb (p .address .0) address),
           )
 
-  pub one-more : One-more p t (entered p t)
+  pub one-more : (lands : Bool) → One-more lands p t (entered lands p t)
   unfolding entered grown
-  one-more =
-      chosen (One-more p t) (free p) grown t
-      (λ f. record {
+  one-more true =
+      record {
         long = length-set (t .addresses) (t .count) (p .address .0);
         wide = length-set (t .places) (t .count) (p .place .0);
         count = omega arith;
         rising = rising-more (t .addresses) (t .count) (p .address .0) (room .addresses) rising below;
         below = below-more (t .addresses) (t .count) (p .address .0) (room .addresses) below;
-        says = grown-says f;
-      })
-      (λ f. record {
+        says = grown-says;
+      }
+  one-more false =
+      record {
         long = refl;
         wide = refl;
         count = omega arith;
         rising = rising;
         below = λ bound h i l. omega (arith, below i l);
-        says = λ address. rw (f, and-false (eqb (p .address .0) address)) (sym (or-nowhere (looked-up t address)));
-      })
+        says = λ address. rw (and-false (eqb (p .address .0) address)) (sym (or-nowhere (looked-up t address)));
+      }

@@ -9,16 +9,22 @@ use Rattle.word.specs.Choice.{if_then_else_}
 use Rattle.reading.specs.declared.Place.{Place}
 use Rattle.flow.specs.declared.Way.{Way}
 use Rattle.layout.specs.declared.Point.{Point}
-use Rattle.layout.specs.Layout.{start, walk, layout}
+use Rattle.layout.specs.declared.Seen.{Seen}
+use Rattle.layout.specs.Layout.{start, meets, walk, layout}
+use Rattle.layout.specs.Code.{seen}
 use Rattle.layout.proofs.Points.{rises, walk-on, walk-none}
-use Rattle.layout.proofs.Turns.{Passed}
+use Rattle.layout.proofs.Turns.{seen-as, Passed}
 use Rattle.layout.proofs.Members.{On, start-on, on-within, next-on}
 use Rattle.listing.specs.declared.landing.Placed.{Placed}
 use Rattle.listing.specs.declared.landing.Placed.the-variants.{At, Nowhere}
-use Rattle.listing.specs.Check.{lands-at, first-pass}
-use Rattle.listing.specs.Code.{Table, table, Room, entered, or-else, among, looked-up, Below, Rising, landing-place, Tells}
+use Rattle.listing.specs.Check.{lands-here, lands-at, first-pass}
+use Rattle.listing.specs.Code.{Table, table, Room, lands-seen, entered, or-else, among, looked-up, Below, Rising, landing-place, Tells}
 use Rattle.listing.proofs.Accepted.{sound-low}
 use Rattle.listing.proofs.Entering.{or-nowhere, One-more, one-more}
+
+pub seen-lands : (listing : List ℕ) (p : Point) (t : Seen) → t ≡ seen (meets listing p) → lands-seen p t ≡ lands-here listing p
+unfolding lands-here lands-seen
+seen-lands listing p t e = rw (e, seen-as (meets listing p))
 
 or-then : (x : Placed) (t : Bool) (place : Place) (y : Placed)
     → or-else (or-else x (if t then At place else Nowhere)) y ≡ or-else x (if t then At place else y)
@@ -33,7 +39,7 @@ pub record Listed (listing : List ℕ) (base : ℕ) (t : Table) (p : Point) (lef
   pub few : 2 * t .count ≤ p .place .0
   pub rising : Rising (t .addresses) (t .count)
   pub below : Below (t .addresses) (t .count) (p .address .0)
-  pub all : (address : ℕ) → or-else (looked-up t address) (landing-place address (walk left listing p)) ≡ landing-place address (layout listing base)
+  pub all : (address : ℕ) → or-else (looked-up t address) (landing-place listing address (walk left listing p)) ≡ landing-place listing address (layout listing base)
 
 module _ (listing : List ℕ) (base : ℕ) where
   pub listed-start : (addresses places : List ℕ) → length addresses ≡ 32769 → length places ≡ 32769
@@ -62,10 +68,13 @@ module _ (listing : List ℕ) (base : ℕ) where
           near = omega arith;
         }
 
-    more : One-more p t (entered p t)
-    more = one-more p t listed-room (so-far .rising) (so-far .below)
+    abbrev here : Bool
+    here = lands-here listing p
 
-    pub listed-on : 0 < left → (w : Way) (q : Point) → Passed listing p w q → Listed listing base (entered p t) q (left - 1)
+    more : One-more here p t (entered here p t)
+    more = one-more p t listed-room (so-far .rising) (so-far .below) here
+
+    pub listed-on : 0 < left → (w : Way) (q : Point) → Passed listing p w q → Listed listing base (entered here p t) q (left - 1)
     unfolding landing-place
     listed-on h w q g =
         let up = rises listing p (g .what) q (g .goes) in
@@ -78,11 +87,11 @@ module _ (listing : List ℕ) (base : ℕ) where
           below = more .below (q .address .0) (up .addresses);
           all = λ address.
               rw (more .says address)
-              (or-then (looked-up t address) (lands-at address p) (p .place) (landing-place address (walk (left - 1) listing q))
+              (or-then (looked-up t address) (lands-at listing address p) (p .place) (landing-place listing address (walk (left - 1) listing q))
               ∙ (rw (walk-on listing p left h (g .what) q (g .goes)) at (so-far .all address)));
         }
 
-    pub listed-last : walk left listing p ≡ p ∷ [] → Tells (entered p t) listing base
+    pub listed-last : walk left listing p ≡ p ∷ [] → Tells (entered here p t) listing base
     unfolding landing-place
     listed-last e = record {
       sorted = record {

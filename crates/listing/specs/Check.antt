@@ -7,12 +7,11 @@ use lib.Dec.{ltb, eqb}
 use lib.ListN.{length}
 use Rattle.word.specs.Choice.{if_then_else_}
 use Rattle.word.specs.Word.{bit}
-use Rattle.waiting.specs.Waiting.{waiting-count}
 use Rattle.flow.specs.Flow.{way, target}
 use Rattle.flow.specs.declared.Way.{Way}
-use Rattle.flow.specs.declared.Way.the-variants.{Next, Direct, Taken}
+use Rattle.flow.specs.declared.Way.the-variants.{Next, Direct, Taken, Fills}
 use Rattle.layout.specs.declared.Point.{Point}
-use Rattle.layout.specs.Layout.{Met, Onward, AtEnd, Refusal, meets, layout}
+use Rattle.layout.specs.Layout.{Met, Onward, AtEnd, Refusal, free, meets, layout, filled}
 use Rattle.listing.specs.declared.Checked.{Checked}
 
 abbrev pub report : ℕ → ℕ → Checked
@@ -23,10 +22,6 @@ unfoldable pub lowest : (Point → ℕ) → List Point → Checked
 lowest number [] = report 0 0
 lowest number (p ∷ ps) = if eqb (number p) 0 then lowest number ps else report (number p) (p .place .0)
 
--- outside all blocks nothing waits
-unfoldable pub free : Point → Bool
-free p = eqb (waiting-count (p .waiting)) 0
-
 -- "a block not finished at the end is 4 at place = length"; "end address above 0xFFFFFFFE" is 1
 unfoldable pub end-fault : Point → ℕ
 end-fault p = if not (free p) then 4 else if ltb 0xFFFFFFFE (p .address .0) then 1 else 0
@@ -36,22 +31,27 @@ fault (Onward r q) p = 0
 fault AtEnd p = end-fault p
 fault (Refusal number) p = number
 
-abbrev pub lands-at : ℕ → Point → Bool
-lands-at address p = eqb (p .address .0) address && free p
+-- is a point outside all blocks, and without a filler?
+unfoldable pub lands-here : List ℕ → Point → Bool
+lands-here listing p = free p && not (filled (meets listing p))
 
-unfoldable pub lands : ℕ → List Point → Bool
-lands address [] = false
-lands address (p ∷ ps) = lands-at address p || lands address ps
+abbrev pub lands-at : List ℕ → ℕ → Point → Bool
+lands-at listing address p = eqb (p .address .0) address && lands-here listing p
 
--- "Landing places are addresses of records outside all blocks, and the end address."
+unfoldable pub lands : List ℕ → ℕ → List Point → Bool
+lands listing address [] = false
+lands listing address (p ∷ ps) = lands-at listing address p || lands listing address ps
+
+-- "Landing places are addresses of records outside all blocks, and the end address." Order 1: "A filler is no landing place"
 unfoldable pub landing : List ℕ → ℕ → ℕ → Bool
-landing listing base address = lands address (layout listing base)
+landing listing base address = lands listing address (layout listing base)
 
 -- "direct branch to a non-landing place"
 unfoldable pub astray : (ℕ → Bool) → Way → ℕ → Bool
 astray lands Next address = false
 astray lands (Direct offset) address = not (lands (target address (Direct offset)))
 astray lands Taken address = false
+astray lands Fills address = false
 
 unfoldable pub branch-fault : List ℕ → ℕ → Met → Point → ℕ
 branch-fault listing base (Onward r q) p = if astray (landing listing base) (way r) (p .address .0) then 9 else 0

@@ -2,16 +2,18 @@
 -- each address the place. Only so many entries count, from the first on.
 use Prim.Native.Nat.{ℕ, zero, suc, _+_, _^_, _≤_, _<_}
 use mathlib.Core.Path.{_≡_}
-use mathlib.Core.Bool.{Bool, true, false}
+use mathlib.Core.Bool.{Bool, true, false, not, _&&_}
 use mathlib.Core.List.{List, [], _∷_}
 use lib.Dec.{eqb}
 use lib.ListN.{length, getD, set}
 use Rattle.word.specs.Choice.{if_then_else_}
 use Rattle.layout.specs.declared.Point.{Point}
-use Rattle.layout.specs.Layout.{layout}
+use Rattle.layout.specs.declared.Seen.{Seen}
+use Rattle.layout.specs.Layout.{free, layout}
+use Rattle.layout.specs.Code.{seen-filled}
 use Rattle.listing.specs.declared.landing.Placed.{Placed}
 use Rattle.listing.specs.declared.landing.Placed.the-variants.{At, Nowhere}
-use Rattle.listing.specs.Check.{free, lands-at}
+use Rattle.listing.specs.Check.{lands-at}
 
 pub record Table : Type 0 where
   pub addresses : List ℕ
@@ -28,10 +30,14 @@ pub record Room (t : Table) (p : Point) : Type 0 where
   pub low : p .address .0 < 2 ^ 32
   pub near : p .place .0 < 2 ^ 32
 
+-- a point is a landing place by what was seen there
+unfoldable pub lands-seen : Point → Seen → Bool
+lands-seen p seen = free p && not (seen-filled seen)
+
 -- a point is entered after the last, if it is a landing place
-unfoldable pub entered : Point → Table → Table
-entered p t =
-    if free p
+unfoldable pub entered : Bool → Point → Table → Table
+entered lands p t =
+    if lands
     then table (set (t .addresses) (t .count) (p .address .0)) (set (t .places) (t .count) (p .place .0)) (t .count + 1)
     else t
 
@@ -75,11 +81,11 @@ pub record Parted (addresses : List ℕ) (count address low high : ℕ) : Type 0
   pub above : (i : ℕ) → high ≤ i → i < count → address ≤ getD addresses i 0
 
 -- the place of the landing place at an address
-unfoldable pub landing-place : ℕ → List Point → Placed
-landing-place address [] = Nowhere
-landing-place address (p ∷ ps) = if lands-at address p then At (p .place) else landing-place address ps
+unfoldable pub landing-place : List ℕ → ℕ → List Point → Placed
+landing-place listing address [] = Nowhere
+landing-place listing address (p ∷ ps) = if lands-at listing address p then At (p .place) else landing-place listing address ps
 
 -- the landing places of a listing, and no other
 pub record Tells (t : Table) (listing : List ℕ) (base : ℕ) : Type 0 where
   pub sorted : Sorted t
-  pub all : (address : ℕ) → looked-up t address ≡ landing-place address (layout listing base)
+  pub all : (address : ℕ) → looked-up t address ≡ landing-place listing address (layout listing base)

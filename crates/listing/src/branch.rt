@@ -66,5 +66,6 @@ fn is_astray(addresses: &[u32], places: &[u32], count: usize, w: Way, address: A
             }
         }
         Way::Taken => false,
+        Way::Fills => false,
     }
 }

@@ -3,8 +3,8 @@
 ghost use mathlib.Core.Path.{_≡_};
 ghost use Prim.Native.Nat.{_≤_};
 ghost use lib.ListN.{length};
-ghost use Rattle.listing.specs.Check.{free, first-pass};
-ghost use Rattle.listing.specs.Code.{table, Room, entered, looked-up, Rising, Sorted, Parted, Tells};
+ghost use Rattle.listing.specs.Check.{first-pass};
+ghost use Rattle.listing.specs.Code.{table, Room, lands-seen, entered, looked-up, Rising, Sorted, Parted, Tells};
 use layout::Point;
 use layout::Seen;
 use reading::Place;
@@ -13,12 +13,6 @@ use reading::Place;
 pub enum Placed {
     At(Place),
     Nowhere,
-}
-
-pub fn is_free(point: Point) -> bool
-    ensures { λ r. ⌜ r ≡ free point ⌝ }
-{
-    point.waiting.count() == 0
 }
 
 // An entry for each landing place, in order: of at most 32,768 records, as each has two bytes or more, and of the end.
@@ -31,8 +25,9 @@ pub fn list_all(listing: &[u8], base: u32, addresses: &mut [u32], places: &mut [
     let mut left = listing.len() + 1;
     let mut count = 0;
     while 0 < left {
-        count = enter(addresses, places, count, point);
-        match layout::see(listing, point) {
+        let seen = layout::see(listing, point);
+        count = enter(addresses, places, count, point, is_landing(point, seen));
+        match seen {
             Seen::Goes(_, next) => {
                 point = next;
                 left = left - 1;
@@ -44,12 +39,24 @@ pub fn list_all(listing: &[u8], base: u32, addresses: &mut [u32], places: &mut [
     count
 }
 
-fn enter(addresses: &mut [u32], places: &mut [u32], count: usize, point: Point) -> usize
-    requires { ⌜ Room (table (now addresses) (now places) count) point ⌝ }
-    ensures { λ r. ⌜ table (now (addresses .exit)) (now (places .exit)) r ≡ entered point (table (now (addresses .entry)) (now (places .entry)) count) ⌝ }
+// Is it a landing place at which this was seen?
+fn is_landing(point: Point, seen: Seen) -> bool
+    ensures { λ r. ⌜ r ≡ lands-seen point seen ⌝ }
 {
-    let free = is_free(point);
-    if free {
+    layout::is_free(point) & !layout::is_filled(seen)
+}
+
+fn enter(
+    addresses: &mut [u32],
+    places: &mut [u32],
+    count: usize,
+    point: Point,
+    lands: bool,
+) -> usize
+    requires { ⌜ Room (table (now addresses) (now places) count) point ⌝ }
+    ensures { λ r. ⌜ table (now (addresses .exit)) (now (places .exit)) r ≡ entered lands point (table (now (addresses .entry)) (now (places .entry)) count) ⌝ }
+{
+    if lands {
         addresses[count] = point.address.0 as u32;
         places[count] = point.place.0 as u32;
         return count + 1;

@@ -79,7 +79,7 @@ fn report_of(number: u32, place: Place) -> Checked
 fn end_fault_of(point: Point) -> u32
     ensures { λ r. ⌜ r ≡ end-fault point ⌝ }
 {
-    let open = !landing::is_free(point);
+    let open = !layout::is_free(point);
     if open {
         return 4;
     }

@@ -9,7 +9,7 @@ use Rattle.waiting.specs.Waiting.{waiting-count}
 use Rattle.setup.specs.declared.Setup.{Setup}
 use Rattle.setup.specs.Setup.{fits}
 use Rattle.record.specs.declared.Record.{Record}
-use Rattle.record.specs.declared.Record.the-variants.{ShiftedRegister, Constant, RegisterShift, AddNumber, MoveNumber, Unary, Multiply, LongMultiply, Divide, Saturate, BitField, Extend, Access, IndexedAccess, DualAccess, MultipleAccess, Branch, RegisterBranch, CompareBranch, IfThen, Nop}
+use Rattle.record.specs.declared.Record.the-variants.{ShiftedRegister, Constant, RegisterShift, AddNumber, MoveNumber, Unary, Multiply, LongMultiply, Divide, Saturate, BitField, Extend, Access, IndexedAccess, DualAccess, MultipleAccess, Branch, RegisterBranch, CompareBranch, IfThen, Nop, TableBranch, Filler}
 use Rattle.reading.specs.declared.Read.{Read}
 use Rattle.reading.specs.declared.Read.the-variants.{Is, Refused}
 use Rattle.reading.specs.Reading.{read-one}
@@ -18,7 +18,7 @@ use Rattle.machine.specs.declared.Machine.{Machine}
 use Rattle.machine.specs.Machine.{good, condition-passes, skipped, onward, refused, done, Outcome, keeping}
 use Rattle.machine.specs.Compute.{shifted-register-effect, constant-effect, register-shift-effect, add-number-effect, move-number-effect, unary-effect, multiply-effect, long-multiply-effect, divide-effect, saturate-effect, bit-field-effect, extend-effect}
 use Rattle.machine.specs.Access.{access-effect, indexed-access-effect, dual-access-effect, multiple-access-effect}
-use Rattle.machine.specs.Branch.{branch-effect, register-branch-effect, compare-branch-effect}
+use Rattle.machine.specs.Branch.{branch-effect, register-branch-effect, compare-branch-effect, table-branch-effect}
 
 -- what a record does whose condition passes: m is the machine before, next the machine at the next record
 unfoldable pub effect : Machine → Machine → Record → List ℕ → Setup → Outcome
@@ -43,6 +43,8 @@ effect m next (RegisterBranch d) bytes setup = keeping (register-branch-effect m
 effect m next (CompareBranch d) bytes setup = keeping (compare-branch-effect m next d setup) bytes
 effect m next (IfThen d) bytes setup = keeping (done next) bytes
 effect m next (Nop form) bytes setup = keeping (done next) bytes
+effect m next (TableBranch d) bytes setup = keeping (table-branch-effect m next d bytes setup) bytes
+effect m next (Filler number) bytes setup = keeping (done next) bytes  -- never asked: "stepping a filler alone is 3"
 
 -- the step of a record that 1 to 4 don't apply to; "5 to 7 only when it passes"
 unfoldable pub obeyed : Machine → Record → List ℕ → Setup → Outcome

@@ -1,15 +1,17 @@
-// Kinds 11 to 13: m is the machine before, from which all is read, next the machine at the next record.
+// Kinds 11 to 13 and 16: m is the machine before, from which all is read, next the machine at the next record.
 
 ghost use mathlib.Core.Path.{_≡_};
-ghost use Rattle.machine.specs.Branch.{linking, direct-target, branch-effect, register-branch-effect, branches, compare-branch-effect};
+ghost use Rattle.machine.specs.Branch.{linking, direct-target, branch-effect, register-branch-effect, branches, compare-branch-effect, table-branch-effect};
 use crate::Machine;
 use crate::Stepped;
 use record::BranchFields;
 use record::CompareBranchFields;
 use record::Record;
 use record::RegisterBranchFields;
+use record::TableBranchFields;
 use record::op::CompareOp;
 use setup::Setup;
+use transfer::Alignment;
 
 fn link_if(next: Machine, links: bool) -> Machine
     ensures { λ r. ⌜ r ≡ linking next links ⌝ }
@@ -74,4 +76,26 @@ pub fn compare_and_branch(
         ));
     }
     crate::finish(next)
+}
+
+pub fn branch_by_table(
+    m: Machine,
+    next: Machine,
+    d: TableBranchFields,
+    memory: &[u8],
+    setup: Setup,
+) -> Stepped
+    ensures { λ r. ⌜ r ≡ table-branch-effect m next d (now (memory .entry)) setup ⌝ }
+{
+    let op = d.op;
+    let at = transfer::entry_address_of(op, m.operand(d.rn), m.register(d.rm));
+    let width = transfer::entry_width_of(op);
+    let refusal = transfer::refusal_of(Alignment::Byte, width, setup, memory, at);
+    let fine = refusal == 0;
+    if fine {
+        let entry = transfer::load_entry(op, setup, memory, at);
+        let to = transfer::table_target_of(m.register(Machine::PC), entry);
+        return crate::finish(next.write(Machine::PC, to));
+    }
+    crate::refuse(refusal, m)
 }

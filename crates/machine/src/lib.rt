@@ -249,5 +249,7 @@ fn take_effect(m: Machine, next: Machine, r: Record, memory: &mut [u8], setup: S
         Record::CompareBranch(d) => branch::compare_and_branch(m, next, d, setup),
         Record::IfThen(_) => finish(next),
         Record::Nop(_) => finish(next),
+        Record::TableBranch(d) => branch::branch_by_table(m, next, d, memory, setup),
+        Record::Filler(_) => finish(next),
     }
 }

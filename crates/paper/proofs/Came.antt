@@ -36,7 +36,7 @@ use Rattle.paper.proofs.Holds.{obeyed-holds}
 use Rattle.paper.proofs.Steers.{Goes, Steers, steered}
 
 -- ---- IT is never passed over
-always : (f : Flags) → passes f 14 ≡ true
+pub always : (f : Flags) → passes f 14 ≡ true
 unfolding passes
 always f = refl
 

@@ -11,7 +11,7 @@ use Rattle.word.specs.Choice.{if_then_else_}
 use Rattle.word.specs.Word.{bit}
 use Rattle.word.proofs.Cases.{chosen}
 use Rattle.setup.specs.declared.Setup.{Setup}
-use Rattle.memory.specs.Memory.{inside}
+use Rattle.memory.specs.Memory.{inside, loaded}
 use Rattle.memory.proofs.Laws.{stored-length}
 use Rattle.register_list.specs.List.{member}
 use Rattle.record.specs.Op.{loads, loads-dual, loads-many, is-bl, is-blx}
@@ -23,17 +23,18 @@ use Rattle.record.specs.declared.MultipleAccessFields.{MultipleAccessFields}
 use Rattle.record.specs.declared.BranchFields.{BranchFields}
 use Rattle.record.specs.declared.RegisterBranchFields.{RegisterBranchFields}
 use Rattle.record.specs.declared.CompareBranchFields.{CompareBranchFields}
+use Rattle.record.specs.declared.TableBranchFields.{TableBranchFields}
 use Rattle.record.specs.declared.Record.{Record}
-use Rattle.record.specs.declared.Record.the-variants.{ShiftedRegister, Constant, RegisterShift, AddNumber, MoveNumber, Unary, Multiply, LongMultiply, Divide, Saturate, BitField, Extend, Access, IndexedAccess, DualAccess, MultipleAccess, Branch, RegisterBranch, CompareBranch, IfThen, Nop}
+use Rattle.record.specs.declared.Record.the-variants.{ShiftedRegister, Constant, RegisterShift, AddNumber, MoveNumber, Unary, Multiply, LongMultiply, Divide, Saturate, BitField, Extend, Access, IndexedAccess, DualAccess, MultipleAccess, Branch, RegisterBranch, CompareBranch, IfThen, Nop, TableBranch, Filler}
 use Rattle.transfer.specs.declared.Alignment.{Alignment}
-use Rattle.transfer.specs.declared.Alignment.the-variants.{Word}
-use Rattle.transfer.specs.Transfer.{width, multiple, alignment, access-refusal}
+use Rattle.transfer.specs.declared.Alignment.the-variants.{Byte, Word}
+use Rattle.transfer.specs.Transfer.{width, multiple, alignment, access-refusal, entry-width, entry-address, table-target}
 use Rattle.transfer.proofs.Lengths.{after-store-length, list-stored-length}
 use Rattle.machine.specs.declared.Machine.{Machine}
 use Rattle.machine.specs.declared.Stepped.{Stepped}
-use Rattle.machine.specs.Machine.{PC, held, written, condition-passes, onward, skipped, refused, done, steady, settled, Outcome, keeping, landed}
+use Rattle.machine.specs.Machine.{PC, held, operand-value, written, condition-passes, onward, skipped, refused, done, steady, settled, Outcome, keeping, landed}
 use Rattle.machine.specs.Access.{storing, arriving, access-made, access-done, access-effect, indexed-access-effect, dual-made, dual-access-effect, list-arriving, multiple-made, multiple-access-effect}
-use Rattle.machine.specs.Branch.{direct-target, branch-effect, register-branch-effect, branches, compare-branch-effect}
+use Rattle.machine.specs.Branch.{direct-target, branch-effect, register-branch-effect, branches, compare-branch-effect, table-branch-effect}
 use Rattle.machine.specs.Compute.{shifted-register-effect, constant-effect, register-shift-effect, add-number-effect, move-number-effect, unary-effect, multiply-effect, long-multiply-effect, divide-effect, saturate-effect, bit-field-effect, extend-effect}
 use Rattle.machine.specs.Step.{effect, obeyed}
 use Rattle.paper.proofs.Registers.{steady-written, steady-onward, steady-linking}
@@ -44,6 +45,10 @@ pub record Ends (m : Machine) (bytes : List ℕ) (P : Outcome → Type 0) (Q : M
   pub stop : (n : ℕ) → (5 ≤ n) × (n ≤ 7) → P (keeping (refused n m) bytes)
   pub went : (x : Machine) (after : List ℕ) → Q x → steady x ≡ true → length after ≡ length bytes
       → P (record { answer = done x; memory = after })
+
+keeping-if : (t : Bool) (a b : Stepped) (bytes : List ℕ) → keeping (if t then a else b) bytes ≡ (if t then keeping a bytes else keeping b bytes)
+keeping-if true a b bytes = refl
+keeping-if false a b bytes = refl
 
 module _
     (m : Machine) (bytes : List ℕ) (setup : Setup) (P : Outcome → Type 0) (Q : Machine → Type 0) (W : ℕ → ℕ → Type 0)
@@ -138,6 +143,17 @@ module _
         go true = ends .went _ bytes (keeps .write next PC _ w q) (steady-written next PC _ (λ e. omega arith) ∙ s) refl
         go false = ends .went next bytes q s refl
 
+    of-table : (next : Machine) (d : TableBranchFields) → Each m W (TableBranch d) → steady next ≡ true → Q next
+        → Answer (table-branch-effect m next d bytes setup)
+    unfolding table-branch-effect
+    of-table next d w s q =
+        let at = entry-address (d .op) (operand-value m (d .rn)) (held m (d .rm)) in
+        let n = access-refusal Byte (entry-width (d .op)) setup (length bytes) at in
+        let to = written next PC (table-target (held m PC) (loaded (entry-width (d .op)) setup bytes at)) in
+        rw (keeping-if (eqb n 0) (done to) (refused n m) bytes)
+        (of-refusal Byte (entry-width (d .op)) at _
+        (ends .went _ bytes (keeps .write next PC _ (w _) q) (steady-written next PC _ (λ e. omega arith) ∙ s) refl))
+
     of-effect : (next : Machine) (r : Record) → Each m W r → steady next ≡ true → Q next → P (effect m next r bytes setup)
     unfolding effect shifted-register-effect constant-effect register-shift-effect add-number-effect move-number-effect unary-effect multiply-effect long-multiply-effect divide-effect saturate-effect bit-field-effect extend-effect
     of-effect next (ShiftedRegister d) w s q = of-settled _ (data-kept Q W keeps m next (d .op) (d .form .s) (d .rd) _ _ w q)
@@ -162,6 +178,8 @@ module _
     of-effect next (CompareBranch d) w s q = of-compare next d w s q
     of-effect next (IfThen d) w s q = ends .went next bytes q s refl
     of-effect next (Nop form) w s q = ends .went next bytes q s refl
+    of-effect next (TableBranch d) w s q = of-table next d w s q
+    of-effect next (Filler number) w s q = ends .went next bytes q s refl
 
     -- Q holds at the next record where the condition passes, and P where it fails
     pub obeyed-holds : (r : Record) → Each m W r → (condition-passes m r ≡ true → Q (onward m r))

@@ -5,3 +5,4 @@ pub mod Holds
 pub mod Demands
 pub mod Steers
 pub mod Came
+pub mod Parting

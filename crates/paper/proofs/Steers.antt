@@ -13,11 +13,11 @@ use Rattle.record.specs.declared.op.AccessOp.{AccessOp}
 use Rattle.record.specs.declared.op.AccessOp.the-variants.{Ldr, Ldrb, Ldrh, Ldrsb, Ldrsh, Str, Strb, Strh}
 use Rattle.record.specs.declared.ShiftedRegisterFields.{ShiftedRegisterFields}
 use Rattle.record.specs.declared.Record.{Record}
-use Rattle.record.specs.declared.Record.the-variants.{ShiftedRegister, Constant, RegisterShift, AddNumber, MoveNumber, Unary, Multiply, LongMultiply, Divide, Saturate, BitField, Extend, Access, IndexedAccess, DualAccess, MultipleAccess, Branch, RegisterBranch, CompareBranch, IfThen, Nop}
+use Rattle.record.specs.declared.Record.the-variants.{ShiftedRegister, Constant, RegisterShift, AddNumber, MoveNumber, Unary, Multiply, LongMultiply, Divide, Saturate, BitField, Extend, Access, IndexedAccess, DualAccess, MultipleAccess, Branch, RegisterBranch, CompareBranch, IfThen, Nop, TableBranch, Filler}
 use Rattle.restricted.specs.Restricted.{allowed, plain, first-operand, transferred}
 use Rattle.flow.specs.Flow.{traits, way, target, to-pc, taken-if}
 use Rattle.flow.specs.declared.Way.{Way}
-use Rattle.flow.specs.declared.Way.the-variants.{Next, Direct, Taken}
+use Rattle.flow.specs.declared.Way.the-variants.{Next, Direct, Taken, Fills}
 use Rattle.machine.specs.declared.Machine.{Machine}
 use Rattle.machine.specs.Machine.{PC, held}
 use Rattle.machine.specs.Branch.{direct-target}
@@ -28,6 +28,7 @@ abbrev pub Goes : Machine → Way → ℕ → Type 0
 Goes m Next v = ⊥
 Goes m (Direct offset) v = v ≡ target (held m PC) (Direct offset)
 Goes m Taken v = Unit {0}
+Goes m Fills v = ⊥
 
 -- another register, or such a value
 abbrev pub Steers : Machine → Way → ℕ → ℕ → Type 0
@@ -134,3 +135,5 @@ steered m (RegisterBranch d) h = (λ v. inl (λ e. omega arith), λ v. inr tt)
 steered m (CompareBranch d) h = inr refl
 steered m (IfThen d) h = tt
 steered m (Nop form) h = tt
+steered m (TableBranch d) h = λ v. inr tt
+steered m (Filler number) h = tt

@@ -13,7 +13,7 @@ use Rattle.record.specs.Op.{data-code, loads, loads-many, is-offset}
 use Rattle.record.specs.declared.op.DataOp.{DataOp}
 use Rattle.record.specs.declared.op.Mode.{Mode}
 use Rattle.record.specs.declared.Record.{Record}
-use Rattle.record.specs.declared.Record.the-variants.{ShiftedRegister, Constant, RegisterShift, AddNumber, MoveNumber, Unary, Multiply, LongMultiply, Divide, Saturate, BitField, Extend, Access, IndexedAccess, DualAccess, MultipleAccess, Branch, RegisterBranch, CompareBranch, IfThen, Nop}
+use Rattle.record.specs.declared.Record.the-variants.{ShiftedRegister, Constant, RegisterShift, AddNumber, MoveNumber, Unary, Multiply, LongMultiply, Divide, Saturate, BitField, Extend, Access, IndexedAccess, DualAccess, MultipleAccess, Branch, RegisterBranch, CompareBranch, IfThen, Nop, TableBranch, Filler}
 use Rattle.machine.specs.declared.Machine.{Machine}
 use Rattle.machine.specs.Machine.{LR, PC, written, with-flags}
 use Rattle.machine.specs.Compute.{flagged, resulting, data-done}
@@ -46,6 +46,8 @@ Each m W (RegisterBranch d) = ((v : ℕ) → W LR v) × ((v : ℕ) → W PC v)
 Each m W (CompareBranch d) = W PC (direct-target m (CompareBranch d))
 Each m W (IfThen d) = Unit {0}
 Each m W (Nop form) = Unit {0}
+Each m W (TableBranch d) = (v : ℕ) → W PC v
+Each m W (Filler number) = Unit {0}
 
 -- what holds of every register and value
 pub each : (m : Machine) (W : ℕ → ℕ → Type 0) → ((k v : ℕ) → W k v) → (r : Record) → Each m W r
@@ -70,6 +72,8 @@ each m W w (RegisterBranch d) = (λ v. w _ v, λ v. w _ v)
 each m W w (CompareBranch d) = w _ _
 each m W w (IfThen d) = tt
 each m W w (Nop form) = tt
+each m W w (TableBranch d) = λ v. w _ v
+each m W w (Filler number) = tt
 
 -- Q is kept by each write of which W holds, and by a change of flags
 pub record Kept (Q : Machine → Type 0) (W : ℕ → ℕ → Type 0) : Type 0 where

@@ -7,7 +7,7 @@ use lib.Dec.{eqb}
 use lib.ListN.{length, getD}
 use Rattle.little.specs.Little.{byte, little}
 use Rattle.kinds.specs.Kinds.{nine, listing-length, readings, nop-from, record-of}
-use Rattle.kinds.specs.Kinds.{shifted-register-from, constant-from, register-shift-from, add-number-from, move-number-from, unary-from, multiply-from, long-multiply-from, divide-from, saturate-from, bit-field-from, extend-from, access-from, indexed-access-from, dual-access-from, multiple-access-from, branch-from, register-branch-from, compare-branch-from, if-then-from}
+use Rattle.kinds.specs.Kinds.{shifted-register-from, constant-from, register-shift-from, add-number-from, move-number-from, unary-from, multiply-from, long-multiply-from, divide-from, saturate-from, bit-field-from, extend-from, access-from, indexed-access-from, dual-access-from, multiple-access-from, branch-from, register-branch-from, compare-branch-from, if-then-from, table-branch-from}
 use Rattle.reading.specs.Reading.{coded, named}
 
 -- a function of a table applied is an entry of the table of its values
@@ -17,7 +17,7 @@ getD-apply (f ∷ fs) zero d x = refl
 getD-apply (f ∷ fs) (suc k) d x = getD-apply fs k d x
 
 pub record-nine : (r : List ℕ) → record-of (nine r) ≡ record-of r
-unfolding little record-of shifted-register-from constant-from register-shift-from add-number-from move-number-from unary-from multiply-from long-multiply-from divide-from saturate-from bit-field-from extend-from access-from indexed-access-from dual-access-from multiple-access-from branch-from register-branch-from compare-branch-from if-then-from
+unfolding little record-of shifted-register-from constant-from register-shift-from add-number-from move-number-from unary-from multiply-from long-multiply-from divide-from saturate-from bit-field-from extend-from access-from indexed-access-from dual-access-from multiple-access-from branch-from register-branch-from compare-branch-from if-then-from table-branch-from
 record-nine r = getD-apply readings (byte r 0) nop-from (nine r) ∙ sym (getD-apply readings (byte r 0) nop-from r)
 
 -- the test that the bytes are a whole record, as it is made of the nine

@@ -1,6 +1,6 @@
 -- Which bytes are a record. "record short, trailing bytes, unknown kind, field not as above" is number 2.
 use Prim.Native.Nat.{ℕ, _+_}
-use mathlib.Core.Bool.{Bool, true, _&&_}
+use mathlib.Core.Bool.{Bool, true, _&&_, _||_}
 use mathlib.Core.List.{List}
 use lib.Dec.{leb, ltb, eqb}
 use lib.ListN.{length, take, drop}
@@ -27,11 +27,13 @@ coded r kind =
     else if eqb kind 0x10 then ltb (byte r 4) 2
     else true
 
--- every number that stands for a name has one, and the form byte's other bits are 0
+-- every number that stands for a name has one, and the form byte's other bits are 0; IT and NOP have no op, a filler has neither
 unfoldable pub named : List ℕ → Bool
 named r =
     let kind = byte r 0 in
-    if leb 0x14 kind then form-known r 1 else ltb (byte r 1) (names kind) && form-known r 2 && coded r kind
+    if eqb kind 0x17 then true
+    else if eqb kind 0x14 || eqb kind 0x15 then form-known r 1
+    else ltb (byte r 1) (names kind) && form-known r 2 && coded r kind
 
 -- all the bytes are one record, and no more
 unfoldable pub read-one : List ℕ → Read

@@ -26,7 +26,11 @@ fn is_named(r: [u8; 9]) -> bool
     ensures { λ t. ⌜ t ≡ named r ⌝ }
 {
     let kind = r[0];
-    let without_op = 0x14 <= kind;
+    let filler = kind == 0x17;
+    if filler {
+        return true;
+    }
+    let without_op = (kind == 0x14) | (kind == 0x15);
     if without_op {
         return r[1] < 4;
     }

@@ -37,6 +37,8 @@ use Rattle.record.specs.declared.op.RegisterOp.{RegisterOp}
 use Rattle.record.specs.declared.op.RegisterOp.the-variants.{Bx, Blx}
 use Rattle.record.specs.declared.op.CompareOp.{CompareOp}
 use Rattle.record.specs.declared.op.CompareOp.the-variants.{Cbz, Cbnz}
+use Rattle.record.specs.declared.op.TableOp.{TableOp}
+use Rattle.record.specs.declared.op.TableOp.the-variants.{Tbb, Tbh}
 use Rattle.record.specs.declared.op.Mode.{Mode}
 use Rattle.record.specs.declared.op.Mode.the-variants.{Offset, PreIndexed, PostIndexed}
 
@@ -90,6 +92,9 @@ register-op code = getD (Bx ∷ []) code Blx
 
 abbrev pub compare-op : ℕ → CompareOp
 compare-op code = getD (Cbz ∷ []) code Cbnz
+
+abbrev pub table-op : ℕ → TableOp
+table-op code = getD (Tbb ∷ []) code Tbh
 
 abbrev pub mode : ℕ → Mode
 mode code = getD (Offset ∷ PreIndexed ∷ []) code PostIndexed

@@ -20,6 +20,7 @@ use crate::op::MultiplyOp;
 use crate::op::RegisterOp;
 use crate::op::SaturateOp;
 use crate::op::Shift;
+use crate::op::TableOp;
 use crate::op::UnaryOp;
 
 // The form byte: does it set the flags, and is it 4 machine bytes long and not 2?
@@ -212,6 +213,14 @@ pub struct IfThenFields {
     pub elses: u8,
 }
 
+// 16
+pub struct TableBranchFields {
+    pub op: TableOp,
+    pub form: Form,
+    pub rn: u8,
+    pub rm: u8,
+}
+
 pub enum Record {
     ShiftedRegister(ShiftedRegisterFields),
     Constant(ConstantFields),
@@ -234,4 +243,7 @@ pub enum Record {
     CompareBranch(CompareBranchFields),
     IfThen(IfThenFields),
     Nop(Form),
+    TableBranch(TableBranchFields),
+    // 17: its machine bytes
+    Filler(u16),
 }

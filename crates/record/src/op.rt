@@ -1,7 +1,7 @@
 // The operations, shifts and modes that a record names, each by the number that stands for it.
 
 ghost use mathlib.Core.Path.{_≡_};
-ghost use Rattle.record.specs.Op.{data-op, data-code, is-lsl, is-mul, loads, loads-dual, loads-many, is-bl, is-blx, is-offset, is-ldr, shift, add-op, move-op, unary-op, multiply-op, long-op, divide-op, saturate-op, field-op, extend-op, access-op, dual-op, multiple-op, branch-op, register-op, compare-op, mode};
+ghost use Rattle.record.specs.Op.{data-op, data-code, is-lsl, is-mul, loads, loads-dual, loads-many, is-bl, is-blx, is-offset, is-ldr, shift, add-op, move-op, unary-op, multiply-op, long-op, divide-op, saturate-op, field-op, extend-op, access-op, dual-op, multiple-op, branch-op, register-op, compare-op, table-op, mode};
 
 // The operations of kinds 01 and 02.
 pub enum DataOp {
@@ -137,6 +137,12 @@ pub enum RegisterOp {
 pub enum CompareOp {
     Cbz,
     Cbnz,
+}
+
+// Kind 16.
+pub enum TableOp {
+    Tbb,
+    Tbh,
 }
 
 pub enum Mode {
@@ -330,6 +336,15 @@ pub fn compare_op_of(code: u8) -> CompareOp
     match code {
         0 => CompareOp::Cbz,
         _ => CompareOp::Cbnz,
+    }
+}
+
+pub fn table_op_of(code: u8) -> TableOp
+    ensures { λ r. ⌜ r ≡ table-op code ⌝ }
+{
+    match code {
+        0 => TableOp::Tbb,
+        _ => TableOp::Tbh,
     }
 }
 

@@ -1,6 +1,6 @@
 -- "Restricted (3)." What is allowed of each kind; anything else is number 3.
 use Prim.Native.Nat.{ℕ}
-use mathlib.Core.Bool.{Bool, true, not, _&&_, _||_}
+use mathlib.Core.Bool.{Bool, true, false, not, _&&_, _||_}
 use lib.Dec.{leb, eqb}
 use Rattle.word.specs.Choice.{if_then_else_}
 use Rattle.register_list.specs.List.{member}
@@ -18,7 +18,7 @@ use Rattle.record.specs.declared.IndexedAccessFields.{IndexedAccessFields}
 use Rattle.record.specs.declared.DualAccessFields.{DualAccessFields}
 use Rattle.record.specs.declared.MultipleAccessFields.{MultipleAccessFields}
 use Rattle.record.specs.declared.Record.{Record}
-use Rattle.record.specs.declared.Record.the-variants.{ShiftedRegister, Constant, RegisterShift, AddNumber, MoveNumber, Unary, Multiply, LongMultiply, Divide, Saturate, BitField, Extend, Access, IndexedAccess, DualAccess, MultipleAccess, Branch, RegisterBranch, CompareBranch, IfThen, Nop}
+use Rattle.record.specs.declared.Record.the-variants.{ShiftedRegister, Constant, RegisterShift, AddNumber, MoveNumber, Unary, Multiply, LongMultiply, Divide, Saturate, BitField, Extend, Access, IndexedAccess, DualAccess, MultipleAccess, Branch, RegisterBranch, CompareBranch, IfThen, Nop, TableBranch, Filler}
 
 -- a register that is not R13 or R15
 abbrev pub plain : ℕ → Bool
@@ -100,6 +100,7 @@ multiple-access-allowed d =
     && not (member (d .list) 14 && member (d .list) 15) && not (d .writeback && member (d .list) (d .rn)) && not (eqb (d .rn) 15)
 
 -- "R13 and R15 nowhere in 01 to 0C, except .."; "BLX not 15. IT with AL has no else."
+-- Order 1: "Rn not 13, Rm not 13 or 15"; "stepping a filler alone is 3"
 unfoldable pub allowed : Record → Bool
 allowed (ShiftedRegister d) = shifted-register-allowed d
 allowed (Constant d) = constant-allowed d
@@ -122,3 +123,5 @@ allowed (RegisterBranch d) = not (is-blx (d .op) && eqb (d .rm) 15)
 allowed (CompareBranch d) = true
 allowed (IfThen d) = not (eqb (d .condition) 14) || eqb (d .elses) 0
 allowed (Nop form) = true
+allowed (TableBranch d) = not (eqb (d .rn) 13) && plain (d .rm)
+allowed (Filler number) = false

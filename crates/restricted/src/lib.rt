@@ -37,5 +37,7 @@ pub fn is_allowed(r: Record) -> bool
         Record::CompareBranch(_) => true,
         Record::IfThen(d) => !(d.condition == 14) | (d.elses == 0),
         Record::Nop(_) => true,
+        Record::TableBranch(d) => !(d.rn == register::SP) & parts::plain_of(d.rm),
+        Record::Filler(_) => false,
     }
 }

@@ -34,3 +34,10 @@ stored-next setup bytes registers list lowest r = let s : r + 1 ≡ suc r = omeg
 -- a difference modulo 2 ^ 32
 pub is-lower : (r address size : ℕ) → r < 2 ^ 32 → size < 2 ^ 32 → (r + size) % 2 ^ 32 ≡ address → r ≡ lower address size
 is-lower r address size h k e = omega arith
+
+-- a sum may be taken modulo 2^32 before its parts are added
+pub wrapped-after : (x y : ℕ) → (x + y % 2 ^ 32) % 2 ^ 32 ≡ (x + y) % 2 ^ 32
+wrapped-after x y = omega arith
+
+pub wrapped-both : (x y : ℕ) → (x % 2 ^ 32 + y % 2 ^ 32) % 2 ^ 32 ≡ (x + y) % 2 ^ 32
+wrapped-both x y = omega arith

@@ -1,4 +1,4 @@
--- Loads and stores, kinds 0D to 10: how wide, from where, in which order, and whether they may be made.
+-- Loads and stores, kinds 0D to 10, and the tables of kind 16: how wide, from where, in which order, and whether they may be made.
 use Prim.Native.Nat.{ℕ, zero, suc, _+_, _-_, _*_, _%_, _^_}
 use mathlib.Core.Bool.{Bool, true, false, not, _&&_}
 use mathlib.Core.List.{List}
@@ -14,6 +14,8 @@ use Rattle.record.specs.declared.op.AccessOp.{AccessOp}
 use Rattle.record.specs.declared.op.AccessOp.the-variants.{Ldr, Ldrb, Ldrh, Ldrsb, Ldrsh, Str, Strb, Strh}
 use Rattle.record.specs.declared.op.MultipleOp.{MultipleOp}
 use Rattle.record.specs.declared.op.MultipleOp.the-variants.{Ldmia, Ldmdb, Stmia, Stmdb}
+use Rattle.record.specs.declared.op.TableOp.{TableOp}
+use Rattle.record.specs.declared.op.TableOp.the-variants.{Tbb, Tbh}
 use Rattle.record.specs.declared.op.Mode.{Mode}
 use Rattle.record.specs.declared.op.Mode.the-variants.{Offset, PreIndexed, PostIndexed}
 use Rattle.transfer.specs.declared.Alignment.{Alignment}
@@ -107,3 +109,16 @@ list-stored zero setup bytes registers list lowest = bytes
 list-stored (suc r) setup bytes registers list lowest =
     let rest = list-stored r setup bytes registers list lowest in
     if member list r then stored 4 setup rest (slot list lowest r) (getD registers r 0) else rest
+
+-- kind 16: an entry is a byte for TBB and a halfword for TBH
+unfoldable pub entry-width : TableOp → ℕ
+entry-width Tbb = 1
+entry-width Tbh = 2
+
+-- the address of the entry that an index counts from the table on
+unfoldable pub entry-address : TableOp → ℕ → ℕ → ℕ
+entry-address op table index = further table (entry-width op * index)
+
+-- order 1: "The branch goes to address + 4 plus twice the entry"
+unfoldable pub table-target : ℕ → ℕ → ℕ
+table-target address entry = (address + 4 + 2 * entry) % 2 ^ 32

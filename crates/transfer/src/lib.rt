@@ -1,16 +1,17 @@
 // Loads and stores: how wide, from where, in which order, and whether they may be made.
 
 ghost use mathlib.Core.Path.{_≡_};
-ghost use Prim.Native.Nat.{_%_};
+ghost use Prim.Native.Nat.{_*_, _%_, _^_};
 ghost use lib.Dec.{eqb};
 ghost use lib.ListN.{length};
-ghost use Rattle.transfer.specs.Transfer.{width, load-value, after-store, reached, multiple, alignment, access-refusal, list-size, lower, lowest-address, new-base, slot, list-stored};
+ghost use Rattle.transfer.specs.Transfer.{width, load-value, after-store, reached, multiple, alignment, access-refusal, list-size, lower, lowest-address, new-base, slot, list-stored, entry-width, entry-address, table-target};
 ghost use Rattle.word.specs.Choice.{if_then_else_};
 ghost use Rattle.address.specs.Address.{moved};
-ghost use Rattle.memory.specs.Memory.{further, stored};
+ghost use Rattle.memory.specs.Memory.{further, loaded, stored};
 use record::op::AccessOp;
 use record::op::Mode;
 use record::op::MultipleOp;
+use record::op::TableOp;
 use setup::Setup;
 
 // An access of this alignment wants a multiple of 1, of 2 or of 4.
@@ -183,4 +184,46 @@ fn store_one(setup: Setup, memory: &mut [u8], listed: bool, address: u32, number
     if listed {
         memory::store_word(memory, setup, address, number);
     }
+}
+
+// Kind 16: the bytes of an entry of its table.
+pub fn entry_width_of(op: TableOp) -> u32
+    ensures { λ r. ⌜ r ≡ entry-width op ⌝ }
+{
+    match op {
+        TableOp::Tbb => 1,
+        TableOp::Tbh => 2,
+    }
+}
+
+pub fn entry_address_of(op: TableOp, table: u32, index: u32) -> u32
+    ensures { λ r. ⌜ r ≡ entry-address op table index ⌝ }
+{
+    match op {
+        TableOp::Tbb => std::num::wrapping_add_u32(table, index),
+        TableOp::Tbh => std::num::wrapping_add_u32(table, double(index)),
+    }
+}
+
+pub fn load_entry(op: TableOp, setup: Setup, memory: &[u8], address: u32) -> u32
+    ensures { λ r. ⌜ r ≡ loaded (entry-width op) setup (now (memory .entry)) address ⌝ }
+{
+    match op {
+        TableOp::Tbb => memory::load_byte(memory, setup, address) as u32,
+        TableOp::Tbh => memory::load_half(memory, setup, address) as u32,
+    }
+}
+
+fn double(x: u32) -> u32
+    ensures { λ r. ⌜ r ≡ 2 * x % 2 ^ 32 ⌝ }
+{
+    std::num::wrapping_add_u32(x, x)
+}
+
+// Where a table branch at an address goes by an entry.
+pub fn table_target_of(address: u32, entry: u32) -> u32
+    ensures { λ r. ⌜ r ≡ table-target address entry ⌝ }
+{
+    let ahead = std::num::wrapping_add_u32(address, 4);
+    std::num::wrapping_add_u32(ahead, double(entry))
 }

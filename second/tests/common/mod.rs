@@ -85,6 +85,31 @@ pub fn multiple(op: u8, rn: u8, write_back: u8, list: u16) -> Vec<u8> {
     [&[0x10, op, 0, rn, write_back][..], &list.to_le_bytes()].concat()
 }
 
+/// BX.
+pub fn bx(rm: u8) -> Vec<u8> {
+    vec![0x12, 0, 0, rm]
+}
+
+/// Kind 16: TBB for op 0, TBH for op 1.
+pub fn table(op: u8, rn: u8, rm: u8) -> Vec<u8> {
+    vec![0x16, op, 2, rn, rm]
+}
+
+/// Kind 17.
+pub fn filler(bytes: u16) -> Vec<u8> {
+    [&[0x17][..], &bytes.to_le_bytes()].concat()
+}
+
+/// Order 1's list of what a filler may follow outside a block, by the bytes of the record before it.
+pub fn leaves_room(record: &[u8]) -> bool {
+    match record[0] {
+        0x11 => record[1] == 0 && record[3] == 14,
+        0x12 => record[1] == 0,
+        0x16 | 0x17 => true,
+        _ => false,
+    }
+}
+
 /// A small generator for test data (xorshift).
 pub struct Random(pub u64);
 
@@ -105,10 +130,10 @@ impl Random {
     }
 }
 
-/// Bytes of a record of any kind, mostly with fields as paper 01 wants them.
+/// Bytes of a record of any kind, mostly with fields as the papers want them.
 pub fn some_record(random: &mut Random) -> Vec<u8> {
-    const BODY: [usize; 21] = [7, 8, 5, 6, 5, 4, 6, 6, 5, 7, 6, 5, 7, 6, 8, 6, 7, 3, 4, 4, 1];
-    let kind = 1 + random.below(21) as u8;
+    const BODY: [usize; 23] = [7, 8, 5, 6, 5, 4, 6, 6, 5, 7, 6, 5, 7, 6, 8, 6, 7, 3, 4, 4, 1, 4, 2];
+    let kind = 1 + random.below(23) as u8;
     let length = BODY[usize::from(kind) - 1];
     let mut record = vec![kind];
     for _ in 0..length {
@@ -120,9 +145,11 @@ pub fn some_record(random: &mut Random) -> Vec<u8> {
         };
         record.push(byte);
     }
-    let form = if kind >= 0x14 { 1 } else { 2 };
+    let form = if matches!(kind, 0x14 | 0x15 | 0x17) { 1 } else { 2 };
     record[form] = random.pick(&[0, 0, 0, 2, 2, 2, 1, 3]);
     match kind {
+        0x16 if random.below(8) != 0 => (record[1], record[2]) = (record[1] & 1, 2),
+        0x17 if random.below(8) != 0 => record[1] = random.pick(&[2, 2, 4, 6, 254]),
         0x11 if random.below(8) != 0 => {
             record[4] &= !1;
             record[5..].copy_from_slice(&random.pick(&[[0; 3], [255; 3]]));

@@ -9,9 +9,9 @@ returns : tie.Need-returns
 unfolding traits
 returns c =
     simp (
-      c .before .is-bl-of .ensures,
+      c .before .before .before .before .is-bl-of .ensures,
       c .before .before .before .form-length-of .ensures,
-      toZ-ofZ {w = w32} {z = c .before .before .before .before .args .d .offset} (record { sfits = c .before .before .struct-told .given .1 .1 .1 .0 .1 }),
+      toZ-ofZ {w = w32} {z = c .before .before .before .before .before .args .d .offset} (record { sfits = c .before .before .struct-told .given .1 .1 .1 .0 .1 }),
     )
 
 pub branch-traits-of-spec : {M : Type 1} → statement M

@@ -18,5 +18,10 @@ unfolding leaves
 returns-3 c =
     simp (c .enum-told3 .given .1)
 
+returns-4 : tie.Need-returns-4
+unfolding leaves
+returns-4 c =
+    simp (c .enum-told4 .given .1)
+
 pub leaves-of-spec : {M : Type 1} → statement M
-leaves-of-spec = tie.close (tie.spec (λ c. search needs) (λ c. search needs) (λ c. search needs) returns returns-2 returns-3)
+leaves-of-spec = tie.close (tie.spec (λ c. search needs) (λ c. search needs) (λ c. search needs) (λ c. search needs) returns returns-2 returns-3 returns-4)

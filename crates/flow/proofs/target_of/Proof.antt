@@ -22,5 +22,10 @@ unfolding target
 returns-3 c =
     simp (c .enum-told2 .given .1)
 
+returns-4 : tie.Need-returns-4
+unfolding target
+returns-4 c =
+    simp (c .enum-told3 .given .1)
+
 pub target-of-spec : {M : Type 1} → statement M
-target-of-spec = tie.close (tie.spec (λ c. search needs) (λ c. search needs) (λ c κs. search needs) (λ c κs. search needs) (λ c. search needs) returns returns-2 returns-3)
+target-of-spec = tie.close (tie.spec (λ c. search needs) (λ c. search needs) (λ c κs. search needs) (λ c κs. search needs) (λ c. search needs) (λ c. search needs) returns returns-2 returns-3 returns-4)

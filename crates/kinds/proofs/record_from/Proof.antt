@@ -1,6 +1,6 @@
 use lib.ListN.{List·getD-eq-default}
 use Rattle.word.proofs.Cases.{not-below}
-use Rattle.little.specs.Little.{byte}
+use Rattle.little.specs.Little.{byte, little}
 use Rattle.kinds.specs.Kinds.{record-of, readings, nop-from}
 use borrow.Author.Needs.{needs}
 use Rattle.kinds.proofs.record_from.Statement.{statement}
@@ -114,9 +114,24 @@ returns-21 c =
 returns-22 : tie.Need-returns-22
 unfolding record-of
 returns-22 c =
+    rw (c .form-of2 .ensures, c .before .match .keys22)
+
+returns-23 : tie.Need-returns-23
+unfolding record-of
+returns-23 c =
+    rw (c .table-branch-from .ensures, c .before .match .keys23)
+
+returns-24 : tie.Need-returns-24
+unfolding record-of little
+returns-24 c =
+    rw (c .half-of .ensures, c .before .match .keys24)
+
+returns-25 : tie.Need-returns-25
+unfolding record-of
+returns-25 c =
     let r = c .before .before .args .t1 in
-    let past = List·getD-eq-default readings nop-from (not-below 21 (byte r 0) (c .before .match .rest)) in
-    rw (c .form-of2 .ensures, past)
+    let past = List·getD-eq-default readings nop-from (not-below 24 (byte r 0) (c .before .match .rest)) in
+    rw (c .form-of3 .ensures, past)
 
 pub record-from-spec : {M : Type 1} → statement M
-record-from-spec = tie.close (tie.spec (λ c. search needs) (λ c. search needs) (λ c κs. search needs) (λ c κs. search needs) (λ c κs. search needs) (λ c κs. search needs) (λ c κs. search needs) (λ c κs. search needs) (λ c κs. search needs) (λ c κs. search needs) (λ c κs. search needs) (λ c κs. search needs) (λ c κs. search needs) (λ c κs. search needs) (λ c κs. search needs) (λ c κs. search needs) (λ c κs. search needs) (λ c κs. search needs) (λ c κs. search needs) (λ c κs. search needs) (λ c κs. search needs) (λ c κs. search needs) (λ c κs. search needs) (λ c. search needs) (λ c κs. search needs) returns returns-2 returns-3 returns-4 returns-5 returns-6 returns-7 returns-8 returns-9 returns-10 returns-11 returns-12 returns-13 returns-14 returns-15 returns-16 returns-17 returns-18 returns-19 returns-20 returns-21 returns-22)
+record-from-spec = tie.close (tie.spec (λ c. search needs) (λ c. search needs) (λ c κs. search needs) (λ c κs. search needs) (λ c κs. search needs) (λ c κs. search needs) (λ c κs. search needs) (λ c κs. search needs) (λ c κs. search needs) (λ c κs. search needs) (λ c κs. search needs) (λ c κs. search needs) (λ c κs. search needs) (λ c κs. search needs) (λ c κs. search needs) (λ c κs. search needs) (λ c κs. search needs) (λ c κs. search needs) (λ c κs. search needs) (λ c κs. search needs) (λ c κs. search needs) (λ c κs. search needs) (λ c κs. search needs) (λ c. search needs) (λ c κs. search needs) (λ c κs. search needs) (λ c. search needs) (λ c. search needs) (λ c κs. search needs) (λ c. search needs) (λ c κs. search needs) returns returns-2 returns-3 returns-4 returns-5 returns-6 returns-7 returns-8 returns-9 returns-10 returns-11 returns-12 returns-13 returns-14 returns-15 returns-16 returns-17 returns-18 returns-19 returns-20 returns-21 returns-22 returns-23 returns-24 returns-25)

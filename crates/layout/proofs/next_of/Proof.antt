@@ -5,7 +5,9 @@ use Rattle.layout.proofs.next_of.Tie as tie
 
 returns : tie.Need-returns
 unfolding in-64-bits passed
-returns c = rw (c .opened-of .ensures, c .before .wrapping-add-u64 .ensures)
+returns c =
+    let n = c .before .before in
+    rw (c .before .is-free .ensures, n .opened-of .ensures, n .before .wrapping-add-u64 .ensures)
 
 pub next-of-spec : {M : Type 1} → statement M
-next-of-spec = tie.close (tie.spec (λ c. search needs) (λ c κs. search needs) (λ c κs. search needs) returns)
+next-of-spec = tie.close (tie.spec (λ c. search needs) (λ c κs. search needs) (λ c κs. search needs) (λ c κs. search needs) returns)

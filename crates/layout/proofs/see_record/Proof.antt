@@ -1,6 +1,4 @@
-use mathlib.Core.Path.{ap, _∙_}
 use Rattle.flow.specs.Flow.{machine-length, way, after}
-use Rattle.judge.specs.Judge.{refusal}
 use Rattle.layout.specs.Layout.{next, judged-at}
 use Rattle.layout.specs.Code.{passed, seen}
 use borrow.Author.Needs.{needs}
@@ -11,15 +9,11 @@ returns : tie.Need-returns
 unfolding seen judged-at next passed machine-length way after
 returns c =
     let n = c .before .before .before in
-    let told = n .refusal-of .ensures ∙ ap (refusal (n .before .before .args .r)) (n .before .count .ensures) in
-    rw (← told, c .before .before .if1 .taken, c .next-of .ensures, c .before .traits-of .ensures)
+    rw (← n .refusal-at .ensures, c .before .before .if1 .taken, c .next-of .ensures, c .before .traits-of .ensures)
 
 returns-2 : tie.Need-returns-2
 unfolding seen judged-at
-returns-2 c =
-    let n = c .before in
-    let told = n .refusal-of .ensures ∙ ap (refusal (n .before .before .args .r)) (n .before .count .ensures) in
-    rw (← told, c .if1 .left)
+returns-2 c = rw (← c .before .refusal-at .ensures, c .if1 .left)
 
 pub see-record-spec : {M : Type 1} → statement M
-see-record-spec = tie.close (tie.spec (λ c κs. search needs) (λ c κs. search needs) (λ c κs. search needs) (λ c κs. search needs) returns returns-2)
+see-record-spec = tie.close (tie.spec (λ c κs. search needs) (λ c κs. search needs) (λ c κs. search needs) returns returns-2)

@@ -30,7 +30,7 @@ loop-again c =
     let l = t .before .before .before .loop in
     let a = t .before .before .before .before .before .before .args in
     let h = ltb-false (a .address) (l .point .address .0) (n .before .if2 .left) in
-    let g = passed (a .listing .now) (l .point) _ (n .see .ensures) _ _ (c .before .next .given .1) (omega arith) in
+    let g = passed (a .listing .now) (l .point) _ (n .see .ensures) _ _ (c .before .next .given .1) (omega (arith, t .before .before .before .before .before .before .fits .address)) in
     seek-on (a .listing .now) (l .point) (l .left) (a .address) _ (l .inv) (t .before .before .loop-test .taken) _ _ g (t .if1 .left)
 
 returns-3 : tie.Need-returns-3 Inv-loop μ-loop

@@ -27,5 +27,9 @@ returns-4 : tie.Need-returns-4
 unfolding astray
 returns-4 c = rw (c .enum-told5 .given .1)
 
+returns-5 : tie.Need-returns-5
+unfolding astray
+returns-5 c = rw (c .enum-told6 .given .1)
+
 pub is-astray-spec : {M : Type 1} → statement M
-is-astray-spec = tie.close (tie.spec (λ c. search needs) (λ c. search needs) (λ c. search needs) (λ c κs. search needs) (λ c κs. search needs) (λ c. search needs) (λ c. search needs) (λ c. search needs) returns returns-2 returns-3 returns-4)
+is-astray-spec = tie.close (tie.spec (λ c. search needs) (λ c. search needs) (λ c. search needs) (λ c κs. search needs) (λ c κs. search needs) (λ c. search needs) (λ c. search needs) (λ c. search needs) (λ c. search needs) returns returns-2 returns-3 returns-4 returns-5)

@@ -1,4 +1,3 @@
-use mathlib.Core.Path.{sym, _∙_}
 use borrow.Author.Needs.{needs}
 use Rattle.listing.specs.Code.{entered}
 use Rattle.listing.proofs.landing.enter.Statement.{statement}
@@ -6,11 +5,11 @@ use Rattle.listing.proofs.landing.enter.Tie as tie
 
 returns : tie.Need-returns
 unfolding entered
-returns c = rw (sym (c .before .before .before .is-free .ensures) ∙ c .before .before .if1 .taken)
+returns c = rw (c .before .before .if1 .taken)
 
 returns-2 : tie.Need-returns-2
 unfolding entered
-returns-2 c = rw (sym (c .before .is-free .ensures) ∙ c .if1 .left)
+returns-2 c = rw (c .if1 .left)
 
 pub enter-spec : {M : Type 1} → statement M
-enter-spec = tie.close (tie.spec (λ c κs. search needs) (λ c. search needs) (λ c. search needs) (λ c. search needs) (λ c. search needs) (λ c. search needs) (λ c. search needs) (λ c. search needs) (λ c. search needs) (λ c. search needs) returns returns-2)
+enter-spec = tie.close (tie.spec (λ c. search needs) (λ c. search needs) (λ c. search needs) (λ c. search needs) (λ c. search needs) (λ c. search needs) (λ c. search needs) (λ c. search needs) (λ c. search needs) returns returns-2)

@@ -1,7 +1,7 @@
-use Rattle.listing.specs.Check.{free}
+use Rattle.layout.specs.Layout.{free}
 use borrow.Author.Needs.{needs}
-use Rattle.listing.proofs.landing.is_free.Statement.{statement}
-use Rattle.listing.proofs.landing.is_free.Tie as tie
+use Rattle.layout.proofs.is_free.Statement.{statement}
+use Rattle.layout.proofs.is_free.Tie as tie
 
 returns : tie.Need-returns
 unfolding free
