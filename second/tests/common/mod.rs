@@ -1,6 +1,8 @@
 //! What the tests share. Each test file uses some of it.
 #![allow(dead_code)]
 
+pub mod tables;
+
 use second::machine::Machine;
 use second::waiting::Waiting;
 
