@@ -35,6 +35,21 @@ uint32_t simbhoket_run(uint8_t *machine, size_t machine_length, const uint8_t *l
                        uint32_t listing_base, uint8_t *memory, size_t memory_length, uint32_t memory_base, uint32_t budget,
                        uint8_t *answer, size_t answer_length);
 
+/* The same run of a running machine, that is a machine with the place of the record at R15 stored beside it; after number 10 it can
+   be resumed. `answer` is 16 bytes, in which number, place, count and stored place are put as little-endian words. The stored place is
+   the record's at R15, the listing's length at the end address, and 0xFFFFFFFF, "none", where neither stands: also at a filler, and after
+   a run that was refused by the tests or the check. All else is as simbhoket_run has it, with 16 in the place of 12. */
+uint32_t simbhoket_begin(uint8_t *machine, size_t machine_length, const uint8_t *listing, size_t listing_length,
+                         uint32_t listing_base, uint8_t *memory, size_t memory_length, uint32_t memory_base, uint32_t budget,
+                         uint8_t *answer, size_t answer_length);
+
+/* A run that goes on from a machine whose stored place is `place`, with a budget and a count of its own. Just after the check a place that
+   is not the one of R15 is number 1, place 0; machine, memory and stored place are then as given, as they are where the tests or the
+   check refuse. All else is as simbhoket_begin has it. */
+uint32_t simbhoket_resume(uint8_t *machine, size_t machine_length, const uint8_t *listing, size_t listing_length,
+                          uint32_t listing_base, uint8_t *memory, size_t memory_length, uint32_t memory_base, uint32_t budget,
+                          uint32_t place, uint8_t *answer, size_t answer_length);
+
 /* A rehearsal as the program does it: the length of its text, at most 256 bytes, which is put at the front of `room`; what is behind it
    there stays as it was. Where the room is too short for the whole text, all of it stays as it was. */
 size_t simbhoket_rehearse(const uint8_t *listing, size_t listing_length, uint8_t *room, size_t room_length);

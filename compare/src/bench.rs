@@ -3,6 +3,7 @@
 
 mod clock;
 mod listings;
+mod loops;
 mod runs;
 mod stream;
 
@@ -30,6 +31,7 @@ pub fn run() -> Result<String, String> {
         listings::plain()?,
         listings::fillers()?,
         runs::long()?,
+        loops::behind()?,
         runs::all_samples()?,
     ];
     Ok(lines.join("\n"))

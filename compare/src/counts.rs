@@ -17,8 +17,10 @@ impl<const SORTS: usize> Counts<SORTS> {
         self.counts[sort] += 1;
     }
 
-    pub fn sum(&self) -> u64 {
-        self.counts.iter().sum()
+    /// What is to be told where there were fewer in all.
+    pub fn fewer(&self, least: u64) -> Option<String> {
+        let sum: u64 = self.counts.iter().sum();
+        (sum < least).then(|| format!("{}: {sum} in all", self.title))
     }
 
     /// The sorts that came up fewer times than the least.
@@ -28,9 +30,14 @@ impl<const SORTS: usize> Counts<SORTS> {
 
     /// Of the sorts that can come up; of the others, those that did.
     pub fn gaps_of(&self, least: u64, can: impl Fn(usize) -> bool) -> Vec<String> {
+        self.gaps_by(|sort| can(sort).then_some(least))
+    }
+
+    /// With a least for each sort, or None where it can't come up.
+    pub fn gaps_by(&self, least: impl Fn(usize) -> Option<u64>) -> Vec<String> {
         let all = self.names.iter().zip(self.counts).enumerate();
         let few =
-            all.filter(|&(sort, (_, count))| if can(sort) { count < least } else { count > 0 });
+            all.filter(|&(sort, (_, count))| least(sort).map_or(count > 0, |least| count < least));
         few.map(|(_, (name, count))| format!("{}: {name} {count} times", self.title)).collect()
     }
 }

@@ -31,6 +31,31 @@ impl Image {
         bytes.extend(self.conditions);
         bytes
     }
+
+    /// What bytes that are an image hold.
+    pub fn of(bytes: &[u8]) -> Option<Image> {
+        if !is_one(bytes) {
+            return None;
+        }
+        let mut image = Image { count: bytes[COUNT], ..Image::FRESH };
+        for (number, value) in image.registers.iter_mut().enumerate() {
+            *value = register(bytes, number);
+        }
+        image.flags.copy_from_slice(&bytes[FLAGS..COUNT]);
+        image.conditions.copy_from_slice(&bytes[CONDITIONS..]);
+        Some(image)
+    }
+
+    /// Lets these conditions wait, up to four.
+    pub fn wait(&mut self, conditions: &[u8]) {
+        self.count = conditions.len() as u8;
+        self.conditions = [0; 4];
+        self.conditions[..conditions.len()].copy_from_slice(conditions);
+    }
+
+    pub fn waiting(&self) -> &[u8] {
+        &self.conditions[..usize::from(self.count)]
+    }
 }
 
 /// "An image of another length, with another flag byte, a count above 4 or a byte past the count that

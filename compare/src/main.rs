@@ -9,6 +9,7 @@ mod cover;
 mod hex;
 mod image;
 mod image_bytes;
+mod measured;
 mod memory_length;
 mod prng;
 #[allow(unsafe_code)]
@@ -16,9 +17,11 @@ mod proved;
 mod question;
 mod random_record;
 mod records;
+mod resumes;
 mod runs;
 mod samples;
 mod shapes;
+mod site;
 mod steps;
 mod stock;
 mod table;
@@ -31,8 +34,9 @@ use std::process::ExitCode;
 
 const USAGE: &str =
     "usage: compare records LEAST | steps LEAST [SEED] | checks LEAST [SEED] | runs LEAST [SEED]
-     | texts LEAST [SEED] | bench
+     | resumes LEAST [SEED] | texts LEAST [SEED] | bench
      | worked-steps FILE LEAST | worked-checks FILE LEAST | worked-runs FILE LEAST
+     | worked-resumes FILE LEAST
 SEED and LEAST, the fewest questions or cases that there have to be, are decimal numbers.";
 
 /// An error is a text that says what differs.
@@ -67,11 +71,14 @@ fn outcome(words: &[&str]) -> Option<Result<String, String>> {
         ["checks", least, seed] => checks::run(least.parse().ok()?, seed.parse().ok()?),
         ["runs", least] => runs::run(least.parse().ok()?, runs::SEED),
         ["runs", least, seed] => runs::run(least.parse().ok()?, seed.parse().ok()?),
+        ["resumes", least] => resumes::run(least.parse().ok()?, resumes::SEED),
+        ["resumes", least, seed] => resumes::run(least.parse().ok()?, seed.parse().ok()?),
         ["texts", least] => texts::run(least.parse().ok()?, texts::SEED),
         ["texts", least, seed] => texts::run(least.parse().ok()?, seed.parse().ok()?),
         ["worked-steps", file, least] => worked::steps(file, least.parse().ok()?),
         ["worked-checks", file, least] => worked::checks(file, least.parse().ok()?),
         ["worked-runs", file, least] => worked::runs(file, least.parse().ok()?),
+        ["worked-resumes", file, least] => worked::resumes(file, least.parse().ok()?),
         ["bench"] => bench::run(),
         _ => return None,
     };

@@ -29,6 +29,33 @@ extern "C" {
         answer: *mut u8,
         answer_length: usize,
     ) -> u32;
+    fn simbhoket_begin(
+        machine: *mut u8,
+        machine_length: usize,
+        listing: *const u8,
+        listing_length: usize,
+        listing_base: u32,
+        memory: *mut u8,
+        memory_length: usize,
+        memory_base: u32,
+        budget: u32,
+        answer: *mut u8,
+        answer_length: usize,
+    ) -> u32;
+    fn simbhoket_resume(
+        machine: *mut u8,
+        machine_length: usize,
+        listing: *const u8,
+        listing_length: usize,
+        listing_base: u32,
+        memory: *mut u8,
+        memory_length: usize,
+        memory_base: u32,
+        budget: u32,
+        place: u32,
+        answer: *mut u8,
+        answer_length: usize,
+    ) -> u32;
     fn simbhoket_check(listing: *const u8, listing_length: usize, base: u32) -> u64;
     fn simbhoket_rehearse(
         listing: *const u8,
@@ -94,6 +121,60 @@ pub fn run(
             memory.len(),
             memory_base,
             budget,
+            answer.as_mut_ptr(),
+            answer.len(),
+        )
+    }
+}
+
+/// As `run`, of a running machine: the stored place is a fourth word in the answer's room.
+pub fn begin(
+    machine: &mut [u8],
+    (listing, listing_base): (&[u8], u32),
+    (memory, memory_base): (&mut [u8], u32),
+    budget: u32,
+    answer: &mut [u8],
+) -> u32 {
+    // SAFETY: as above.
+    unsafe {
+        simbhoket_begin(
+            machine.as_mut_ptr(),
+            machine.len(),
+            listing.as_ptr(),
+            listing.len(),
+            listing_base,
+            memory.as_mut_ptr(),
+            memory.len(),
+            memory_base,
+            budget,
+            answer.as_mut_ptr(),
+            answer.len(),
+        )
+    }
+}
+
+/// As `begin`, from a stored place on.
+pub fn resume(
+    machine: &mut [u8],
+    (listing, listing_base): (&[u8], u32),
+    (memory, memory_base): (&mut [u8], u32),
+    budget: u32,
+    place: u32,
+    answer: &mut [u8],
+) -> u32 {
+    // SAFETY: as above.
+    unsafe {
+        simbhoket_resume(
+            machine.as_mut_ptr(),
+            machine.len(),
+            listing.as_ptr(),
+            listing.len(),
+            listing_base,
+            memory.as_mut_ptr(),
+            memory.len(),
+            memory_base,
+            budget,
+            place,
             answer.as_mut_ptr(),
             answer.len(),
         )

@@ -1,7 +1,9 @@
 //! What is asked of both sides, and what each answers.
 
+mod answer;
 mod apart;
 pub mod check;
+pub mod resume;
 pub mod run;
 mod sides;
 pub mod step;

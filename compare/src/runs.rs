@@ -1,17 +1,17 @@
 //! Runs: number, place and count, the machine's image and every byte of memory.
 
-mod demand;
+pub mod demand;
 mod images;
 mod long;
 pub mod pieces;
 pub mod samples;
 pub mod scene;
-mod sights;
+pub mod sights;
 mod spoil;
-mod start;
-mod tables;
+pub mod start;
+pub mod tables;
 mod tally;
-mod trace;
+pub mod trace;
 pub mod writer;
 
 use crate::counts::fewer;
@@ -20,11 +20,15 @@ use crate::question::run::{Answer, Question};
 use crate::question::Sides;
 use crate::Outcome;
 use demand::Demand;
+use scene::Lies;
+use start::Start;
 use tables::tally::Tables;
 use tally::Tally;
 
 pub const SEED: u64 = 0x5209_2026;
 const SCENES: u64 = 100_000;
+/// The fewest runs that demand 3 is to be tried with.
+const DEMANDED: u64 = 40_000;
 const USED_UP: u32 = 10;
 /// Steps enough for nearly every program that has an end.
 const ENOUGH: u32 = 400;
@@ -60,17 +64,15 @@ pub struct Comparison {
 
 impl Comparison {
     fn new(seed: u64) -> Comparison {
-        let (tally, tables, demand) = (Tally::new(), Tables::new(), Demand::new());
+        let demand = Demand::new("accepted listings from their start, ended with", DEMANDED);
+        let (tally, tables) = (Tally::new(), Tables::new());
         Comparison { sides: Sides::new("run", seed), tally, tables, demand }
     }
 
     /// A program, its start, and runs with several budgets.
     fn scene(&mut self, prng: &mut Prng) -> Outcome {
-        let mut scene = scene::scene(prng);
-        spoil::listing(prng, &mut scene);
-        let start = start::start(prng, &mut scene);
-        self.tally.scene(start, scene.lies);
-        let mut question = spoil::question(prng, scene);
+        let (start, lies, mut question) = some(prng);
+        self.tally.scene(start, lies);
         question.budget = ENOUGH;
         let (number, count) = self.put(&question)?;
         self.tally.steps(&question, count);
@@ -94,6 +96,15 @@ impl Comparison {
     fn answer(&self) -> &Answer {
         self.sides.answer()
     }
+}
+
+/// A program and its start, with no budget yet.
+pub fn some(prng: &mut Prng) -> (Start, Lies, Question) {
+    let mut scene = scene::scene(prng);
+    spoil::listing(prng, &mut scene);
+    let start = start::start(prng, &mut scene);
+    let lies = scene.lies;
+    (start, lies, spoil::question(prng, scene))
 }
 
 /// Further budgets for a run that ended so: the largest only where that run had an end of its own.

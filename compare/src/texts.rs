@@ -18,8 +18,9 @@ const LISTINGS: u64 = 20_000;
 const LONGEST: usize = 256;
 /// Bytes before and after the room, which stay as they were too.
 const AROUND: usize = 16;
-/// A run takes as long as its steps times the listing's bytes, for the proved side looks for each
-/// record from the listing's start. One that takes longer than this is dear.
+/// A run of many steps takes long; before order 6 of paper 02, when the proved side looked for each
+/// record from the listing's start, the longer the listing the more so. One of more steps times the
+/// listing's bytes than this is dear.
 const CHEAP: usize = 150_000;
 /// So many of the random listings may be dear, if they have so few bytes.
 const DEAR: u64 = 3;
@@ -74,7 +75,9 @@ pub struct Comparison {
 }
 
 impl Comparison {
-    /// Gives the text that both sides gave. A dear rehearsal is done for two rooms only.
+    /// Gives the text that both sides gave. A dear rehearsal is done for two rooms only. A
+    /// rehearsal with a budget of its own, `second::program::program_within`, would be put here
+    /// beside it, once there is a proved one to compare it with.
     pub fn put(&mut self, listing: &[u8]) -> Result<String, String> {
         self.count += 1;
         let text = second::program::program(listing);

@@ -3,10 +3,11 @@
 mod block;
 mod checks;
 mod parse;
+mod resumes;
 mod runs;
 mod steps;
 
-use crate::question::{check, run, step, Question};
+use crate::question::{check, resume, run, step, Question};
 use block::{Block, Mistake};
 
 pub fn steps(file: &str, least: usize) -> Result<String, String> {
@@ -19,6 +20,10 @@ pub fn checks(file: &str, least: usize) -> Result<String, String> {
 
 pub fn runs(file: &str, least: usize) -> Result<String, String> {
     all::<run::Question>(file, least)
+}
+
+pub fn resumes(file: &str, least: usize) -> Result<String, String> {
+    all::<resume::Question>(file, least)
 }
 
 /// What the cases of a file are.

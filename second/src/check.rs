@@ -1,5 +1,6 @@
-//! The layout of a listing: blocks, landing places, and the check.
+//! The check, which gives an accepted listing its layout.
 
+use crate::layout::{Entry, Layout};
 use crate::number::{Number, DONE, MISPLACED, NO_LANDING, UNFIT};
 use crate::read::read;
 use crate::record::{Action, Control, Record};
@@ -8,40 +9,6 @@ use crate::waiting::Waiting;
 
 const LIMIT: usize = 65_536;
 const HIGHEST_END: u64 = 0xFFFF_FFFE;
-
-/// A record of the listing: "a place counts listing bytes, an address counts machine bytes".
-#[derive(Clone, Copy)]
-pub struct Entry {
-    pub place: usize,
-    pub record: Record,
-    pub waiting: Waiting,
-}
-
-/// An accepted listing. Fillers have no entry; the addresses of the entries rise, and are searched by
-/// halves, for fillers can set them far apart.
-pub struct Layout {
-    end: u32,
-    addresses: Vec<u32>,
-    entries: Vec<Entry>,
-}
-
-impl Layout {
-    pub fn end(&self) -> u32 {
-        self.end
-    }
-
-    /// None at a filler and inside one, and at any address that is not a record's.
-    pub fn at(&self, address: u32) -> Option<&Entry> {
-        let index = self.addresses.binary_search(&address).ok()?;
-        self.entries.get(index)
-    }
-
-    /// "Landing places are addresses of records outside all blocks, and the end address." "A filler is
-    /// no landing place".
-    fn lands(&self, address: u32) -> bool {
-        address == self.end || self.at(address).map_or(false, |entry| entry.waiting.is_empty())
-    }
-}
 
 /// A direct branch and where it goes.
 struct Jump {
@@ -76,7 +43,7 @@ pub fn layout(listing: &[u8], base: u32) -> Result<Layout, (Number, usize)> {
     if walk.end > HIGHEST_END {
         return Err((UNFIT, listing.len()));
     }
-    let layout = Layout { end: walk.end as u32, addresses: walk.addresses, entries: walk.entries };
+    let layout = Layout::new(listing.len(), walk.end as u32, walk.addresses, walk.entries);
     match walk.jumps.iter().find(|jump| !layout.lands(jump.target)) {
         Some(jump) => Err((NO_LANDING, jump.place)),
         None => Ok(layout),
@@ -96,7 +63,7 @@ fn walk(listing: &[u8], base: u32) -> Result<Walk, (Number, usize)> {
         if let Some(number) = fault(&record, waiting.len(), filler_may_stand) {
             return Err((number, place));
         }
-        walk.add(Entry { place, record, waiting });
+        walk.add(Entry { place, length, record, waiting });
         filler_may_stand = filler_may_follow(&record, waiting.len());
         waiting = after(&record, waiting);
         place += length;

@@ -10,6 +10,7 @@ pub mod compute;
 pub mod edges;
 pub mod image;
 pub mod judge;
+pub mod layout;
 pub mod machine;
 pub mod memory;
 pub mod number;

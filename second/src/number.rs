@@ -4,7 +4,7 @@ pub type Number = u32;
 
 pub const DONE: Number = 0;
 /// "machine not good; memory over its limit or past 2^32; listing over 65,536 bytes or base odd;
-/// .. end address above 0xFFFFFFFE"
+/// .. end address above 0xFFFFFFFE"; order 6: "a resume whose stored place disagrees with R15"
 pub const UNFIT: Number = 1;
 /// "record short, trailing bytes, unknown kind, field not as above"
 pub const MALFORMED: Number = 2;

@@ -14,6 +14,11 @@ const STACK: u32 = 0x2000_8000;
 const BUDGET: u32 = 1_000_000;
 
 pub fn program(listing: &[u8]) -> String {
+    program_within(listing, BUDGET)
+}
+
+/// With another budget than paper 01's.
+pub fn program_within(listing: &[u8], budget: u32) -> String {
     // "a listing of at most 32,768 bytes (more is number 1)"
     let (number, place) = if listing.len() > LIMIT { (UNFIT, 0) } else { check(listing, BASE) };
     if number != DONE {
@@ -23,7 +28,7 @@ pub fn program(listing: &[u8]) -> String {
     machine.registers[usize::from(SP)] = STACK;
     machine.registers[usize::from(PC)] = BASE;
     let mut memory = vec![0; MEMORY_BYTES];
-    let ran = run(&mut machine, listing, BASE, &mut memory, MEMORY_BASE, BUDGET);
+    let ran = run(&mut machine, listing, BASE, &mut memory, MEMORY_BASE, budget);
     format!("end {} steps {}\n{}", ran.number, ran.count, state(&machine))
 }
 

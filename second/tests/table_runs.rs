@@ -167,7 +167,7 @@ fn a_table_branch_at_the_end_of_a_block() {
         }
         let ended = run(&mut machine(&[]), &listing, CODE, &mut [], BASE, 9);
         assert_eq!(ended, if passes { ran(6, 5, 1) } else { ran(0, 0, 3) });
-        // resumed in the block
+        // begun in the block
         let mut inside = waits(machine(&[(15, 0x1002), (2, BASE)]), &[condition]);
         let ended = run(&mut inside, &listing, CODE, &mut [1], BASE, 9);
         assert_eq!(ended, if passes { ran(0, 0, 1) } else { ran(0, 0, 2) });

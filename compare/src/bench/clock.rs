@@ -1,4 +1,4 @@
-//! Times of several rounds, of which the one in the middle counts.
+//! Times of several rounds, of which the one in the middle counts, or the shortest.
 
 use std::time::{Duration, Instant};
 
@@ -25,4 +25,9 @@ impl Rounds {
 pub fn median(mut rounds: Rounds) -> Duration {
     rounds.0.sort();
     rounds.0[rounds.0.len() / 2]
+}
+
+/// What is left where nothing else slowed a round down.
+pub fn best(rounds: &Rounds) -> Duration {
+    rounds.0.iter().min().copied().unwrap_or_default()
 }

@@ -1,15 +1,15 @@
 //! A run as a question.
 
-use super::apart::Apart;
-use super::{Lent, UNFIT};
+pub use super::answer::Answer;
+use super::answer::WORD;
+use super::UNFIT;
 use crate::{hex, image, proved};
-use second::run::Ran;
+use second::machine::Machine;
+use second::run::run;
 use std::fmt;
 
 /// The length that the room for number, place and count has to have.
 pub const ROOM: usize = 12;
-/// What is in the room before: neither a number nor a place, so that it shows what was not written.
-const UNTOUCHED: u8 = 0xA5;
 
 /// The machine is an image of any length, and the room for the answer has any length too.
 #[derive(Clone)]
@@ -23,62 +23,40 @@ pub struct Question {
     pub room: usize,
 }
 
-/// The number that the function gives, the room for the three numbers, and what was lent.
-#[derive(Clone, PartialEq, Eq, Default)]
-pub struct Answer {
-    pub number: u32,
-    pub room: Vec<u8>,
-    pub lent: Lent,
-}
-
 impl Question {
     /// "An image that is none, or an answer of another length, is number 1, and nothing is changed,
     /// `answer` neither."
-    fn is_none(&self) -> bool {
-        self.room != ROOM || !image::is_one(&self.image)
+    pub fn is_none(&self, room: usize) -> bool {
+        self.room != room || !image::is_one(&self.image)
     }
 
-    /// The answer in which a run ends so, with nothing changed.
-    pub fn answered(&self, ran: Ran) -> Answer {
-        let mut answer = Answer::default();
+    /// The answer with these words, of which the first is the number, and with nothing changed.
+    pub fn answered(&self, words: &[u32]) -> Answer {
+        let mut answer = Answer { number: words[0], ..Answer::default() };
         answer.lend(self);
-        answer.write(self, ran);
+        if !self.is_none(WORD * words.len()) {
+            answer.write(words);
+        }
         answer
     }
-}
 
-impl Answer {
-    fn lend(&mut self, question: &Question) {
-        self.lent.fill(&question.image, &question.memory);
-        self.room.clear();
-        self.room.resize(question.room, UNTOUCHED);
-    }
-
-    fn write(&mut self, question: &Question, ran: Ran) {
-        self.number = ran.number;
-        if !question.is_none() {
-            let words = [ran.number, ran.place, ran.count].map(u32::to_le_bytes);
-            self.room.copy_from_slice(&words.concat());
-        }
-    }
-
-    /// Number, place and count, out of the room.
-    pub fn words(&self) -> Option<[u32; 3]> {
-        let room: &[u8; ROOM] = self.room[..].try_into().ok()?;
-        let word = |at: usize| u32::from_le_bytes([0, 1, 2, 3].map(|byte| room[at + byte]));
-        Some([0, 4, 8].map(word))
-    }
-
-    /// The steps completed; none where nothing was written to the room.
-    pub fn count(&self) -> u32 {
-        match self.words() {
-            Some([_, _, count]) if !self.is_untouched() => count,
-            _ => 0,
-        }
-    }
-
-    fn is_untouched(&self) -> bool {
-        self.room.iter().all(|&byte| byte == UNTOUCHED)
+    /// A function of the second program, which is given the machine and memory, says which words
+    /// are put in the room.
+    pub(super) fn answer_by<const WORDS: usize>(
+        &self,
+        answer: &mut Answer,
+        function: impl FnOnce(&mut Machine, &mut [u8]) -> [u32; WORDS],
+    ) {
+        let [image, memory, _] = answer.lend(self);
+        let machine = second::image::decode(image).filter(|_| !self.is_none(WORD * WORDS));
+        let mut machine = match machine {
+            Some(machine) => machine,
+            None => return answer.number = UNFIT,
+        };
+        let words = function(&mut machine, memory);
+        image.copy_from_slice(&second::image::encode(&machine));
+        answer.number = words[0];
+        answer.write(&words);
     }
 }
 
@@ -86,43 +64,21 @@ impl super::Question for Question {
     type Answer = Answer;
 
     fn ask_proved(&self, answer: &mut Answer) {
-        answer.lend(self);
-        let Answer { number, room, lent } = answer;
+        let [image, memory, room] = answer.lend(self);
         let listing = (&self.listing[..], self.listing_base);
-        let memory = (&mut lent.memory[..], self.memory_base);
-        *number = proved::run(&mut lent.image, listing, memory, self.budget, room);
+        answer.number = proved::run(image, listing, (memory, self.memory_base), self.budget, room);
     }
 
     fn ask_second(&self, answer: &mut Answer) {
-        answer.lend(self);
-        let machine = second::image::decode(&self.image).filter(|_| !self.is_none());
-        let mut machine = match machine {
-            Some(machine) => machine,
-            None => return answer.number = UNFIT,
-        };
-        let (memory, base) = (&mut answer.lent.memory, self.memory_base);
-        let (listing, listing_base) = (&self.listing, self.listing_base);
-        let ran = second::run::run(&mut machine, listing, listing_base, memory, base, self.budget);
-        answer.lent.image.copy_from_slice(&second::image::encode(&machine));
-        answer.write(self, ran);
+        let (listing, base, memory_base) = (&self.listing, self.listing_base, self.memory_base);
+        self.answer_by(answer, |machine, memory| {
+            let ran = run(machine, listing, base, memory, memory_base, self.budget);
+            [ran.number, ran.place, ran.count]
+        });
     }
 
     fn apart(names: [&str; 2], answers: [&Answer; 2]) -> Vec<String> {
-        let mut apart = Apart::new(names);
-        apart.values("number", answers.map(|answer| answer.number));
-        apart.values("answer", answers.map(Answer::room_text));
-        apart.lent(answers.map(|answer| &answer.lent));
-        apart.lines
-    }
-}
-
-impl Answer {
-    fn room_text(&self) -> String {
-        match self.words() {
-            Some(_) if self.is_untouched() => "untouched".to_string(),
-            Some([number, place, count]) => format!("{number} at {place} steps {count}"),
-            None => hex::line(&self.room),
-        }
+        Answer::apart(names, answers)
     }
 }
 
@@ -135,13 +91,5 @@ impl fmt::Display for Question {
         writeln!(f, "memory of {} bytes", self.memory.len())?;
         writeln!(f, "memory {:08X}: {}", self.memory_base, hex::memory(&self.memory))?;
         write!(f, "budget {}, room for {} bytes", self.budget, self.room)
-    }
-}
-
-/// Memory is left out: `apart` tells what differs.
-impl fmt::Display for Answer {
-    fn fmt(&self, f: &mut fmt::Formatter<'_>) -> fmt::Result {
-        let (room, image) = (self.room_text(), hex::line(&self.lent.image));
-        write!(f, "gives {}, answer {room}, image: {image}", self.number)
     }
 }

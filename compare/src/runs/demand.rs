@@ -2,17 +2,18 @@
 //! a good machine, with nothing waiting and memory within its limits, never ends with 1 to 4, and
 //! with 8 only where the last step took its next address from a register or from memory. A refused
 //! run leaves what the steps before it left. Order 1 of paper 02: "demand 3 is then read for a listing
-//! whose first record isn't a filler".
+//! whose first record isn't a filler"; order 6: it takes a resume "in place of its start", which
+//! `resumes` tells.
 
 use crate::counts::Counts;
 use crate::image::{self, COUNT};
+use crate::measured::{measured, Measured};
 use crate::question::run::{Answer, Question, ROOM};
 use crate::question::Question as _;
 use crate::table::{FILLER, TABLE_BRANCH};
 use crate::{proved, Outcome};
 use std::fmt;
 
-const LEAST: u64 = 40_000;
 const FEW: u64 = 20;
 const SP: usize = 13;
 const PC: usize = 15;
@@ -26,34 +27,44 @@ const WAYS: [&str; 9] = ["BX", "BLX", "MOV", "ADD", "LDR", "LDR by index", "LDM"
 pub struct Demand {
     numbers: Counts<6>,
     ways: Counts<9>,
-}
-
-/// The record that a machine stands at.
-struct Site<'a> {
-    place: u32,
-    record: &'a [u8],
-    address: u32,
-    next: u32,
+    least: u64,
 }
 
 impl Demand {
-    pub fn new() -> Demand {
-        Demand {
-            numbers: Counts::new("accepted listings from their start, ended with", NUMBERS),
-            ways: Counts::new("strayed by", WAYS),
-        }
+    /// At least so many runs are to be tried.
+    pub fn new(title: &'static str, least: u64) -> Demand {
+        let (numbers, ways) = (Counts::new(title, NUMBERS), Counts::new("strayed by", WAYS));
+        Demand { numbers, ways, least }
     }
 
-    /// An error tells what breaks the demand.
     pub fn put(&mut self, question: &Question) -> Outcome {
         if !is_start(question) || proved::check(&question.listing, question.listing_base) != 0 {
             return Ok(());
         }
-        let ran = ask(question, question.budget);
-        let held = match ran.words() {
+        let ask = |budget| {
+            let mut answer = Answer::default();
+            Question { budget, ..question.clone() }.ask_proved(&mut answer);
+            answer
+        };
+        let held = self.hold(question, &ask(question.budget), ask);
+        held.map_err(|broken| format!("{broken}\n{question}"))
+    }
+
+    /// Of a run that the demand takes, with its answer and those that the same has with other
+    /// budgets. An error tells what breaks the demand.
+    pub fn hold(
+        &mut self,
+        question: &Question,
+        ran: &Answer,
+        ask: impl Fn(u32) -> Answer,
+    ) -> Outcome {
+        let held = match ran.ran() {
             Some([0 | USED_UP, 0, _]) => Some(()),
-            Some([5..=7, place, count]) => refused(question, &ran, place, count),
-            Some([8, 0, count]) => strayed(question, &ran, count).map(|way| self.ways.add(way)),
+            Some([5..=7, place, count]) => refused(question, ran, place, &ask(count)),
+            Some([8, 0, count]) => {
+                let before = count.checked_sub(1).map(ask);
+                before.and_then(|its| strayed(question, ran, &its)).map(|way| self.ways.add(way))
+            }
             _ => None,
         };
         match (held, NUMBERS.iter().position(|&name| name == ran.number.to_string())) {
@@ -61,15 +72,13 @@ impl Demand {
                 self.numbers.add(sort);
                 Ok(())
             }
-            _ => Err(format!("demand 3 does not hold:\n{question}\nproved {ran}")),
+            _ => Err(format!("demand 3 does not hold: proved {ran}")),
         }
     }
 
     pub fn gaps(&self) -> Vec<String> {
         let mut gaps = [self.numbers.gaps(FEW), self.ways.gaps(FEW)].concat();
-        if self.numbers.sum() < LEAST {
-            gaps.push(format!("accepted listings from their start: {}", self.numbers.sum()));
-        }
+        gaps.extend(self.numbers.fewer(self.least));
         gaps
     }
 }
@@ -88,34 +97,26 @@ fn is_start(question: &Question) -> bool {
         && question.memory_base as usize + memory.len() <= 1 << 32
 }
 
-fn ask(question: &Question, budget: u32) -> Answer {
-    let mut answer = Answer::default();
-    Question { budget, ..question.clone() }.ask_proved(&mut answer);
-    answer
-}
-
 /// With a budget of its count the run ends with 10 and leaves the same, and it is a step from there
 /// that is refused.
-fn refused(question: &Question, ran: &Answer, place: u32, count: u32) -> Option<()> {
-    let before = ask(question, count);
-    let site = site(question, &before)?;
-    let (number, after) = step(question, &before, &site);
+fn refused(question: &Question, ran: &Answer, place: u32, before: &Answer) -> Option<()> {
+    let site = site(question, before)?;
+    let (number, after) = step(question, before, &site);
     let same = before.lent == ran.lent && after.lent == ran.lent;
-    let at = site.place == place && number == ran.number;
-    (before.words() == Some([USED_UP, 0, count]) && same && at).then_some(())
+    let at = site.place == place as usize && number == ran.number;
+    (before.ran() == Some([USED_UP, 0, ran.count()]) && same && at).then_some(())
 }
 
 /// The run with a budget of one step less ends with 10; from there the record takes its next address
 /// from a register or from memory and is done. In a block it does not just go on: its condition passed.
 /// Outside one it has none, and may lead to the filler right behind it. Gives which of WAYS.
-fn strayed(question: &Question, ran: &Answer, count: u32) -> Option<usize> {
-    let before = ask(question, count.checked_sub(1)?);
-    let site = site(question, &before)?;
-    let (number, after) = step(question, &before, &site);
+fn strayed(question: &Question, ran: &Answer, before: &Answer) -> Option<usize> {
+    let site = site(question, before)?;
+    let (number, after) = step(question, before, &site);
     let outside = before.lent.image[COUNT] == 0;
-    let went = outside || image::register(&after.lent.image, PC) != site.next;
-    let taken = proved::way(site.record, site.address) == TAKEN;
-    let one_less = before.words() == Some([USED_UP, 0, count - 1]);
+    let went = outside || u64::from(image::register(&after.lent.image, PC)) != site.next;
+    let taken = proved::way(site.record, site.address as u32) == TAKEN;
+    let one_less = before.ran() == Some([USED_UP, 0, ran.count() - 1]);
     if !(one_less && taken && went && number == 0 && after.lent == ran.lent) {
         return None;
     }
@@ -129,23 +130,13 @@ fn strayed(question: &Question, ran: &Answer, count: u32) -> Option<usize> {
     }
 }
 
-/// Found by walking from the base.
-fn site<'a>(question: &'a Question, answer: &Answer) -> Option<Site<'a>> {
-    let (listing, target) = (&question.listing, image::register(&answer.lent.image, PC));
-    let (mut place, mut address) = (0, question.listing_base);
-    while place < listing.len() {
-        let both = proved::measure(listing, place);
-        let (bytes, length) = (both as u32 as usize, (both >> 32) as u32);
-        let (record, next) = (listing.get(place..place + bytes)?, address + length);
-        if address == target {
-            return Some(Site { place: place as u32, record, address, next });
-        }
-        (place, address) = (place + bytes.max(1), next);
-    }
-    None
+/// The record that a machine stands at, found by walking from the base.
+fn site<'a>(question: &'a Question, answer: &Answer) -> Option<Measured<'a>> {
+    let target = u64::from(image::register(&answer.lent.image, PC));
+    measured(&question.listing, question.listing_base).find(|item| item.address == target)
 }
 
-fn step(question: &Question, before: &Answer, site: &Site) -> (u32, Answer) {
+fn step(question: &Question, before: &Answer, site: &Measured) -> (u32, Answer) {
     let mut after = before.clone();
     let (image, memory) = (&mut after.lent.image, &mut after.lent.memory);
     let number = proved::step(image, site.record, memory, question.memory_base);

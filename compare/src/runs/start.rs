@@ -1,8 +1,9 @@
 //! Where a run begins, and with what waiting.
 
 use super::scene::Scene;
-use crate::checks::listing::{end_of, spots, IF_THEN};
+use crate::checks::listing::{end_of, spots};
 use crate::prng::Prng;
+use crate::walk::after;
 
 #[derive(Clone, Copy, PartialEq, Eq)]
 pub enum Start {
@@ -44,9 +45,7 @@ pub fn start(prng: &mut Prng, scene: &mut Scene) -> Start {
         None => (AtBase, (0, Vec::new())),
     };
     scene.image.registers[PC] = scene.base.wrapping_add(at as u32) & !1;
-    scene.image.count = waiting.len() as u8;
-    scene.image.conditions = [0; 4];
-    scene.image.conditions[..waiting.len()].copy_from_slice(&waiting);
+    scene.image.wait(&waiting);
     start
 }
 
@@ -74,25 +73,18 @@ fn place(prng: &mut Prng, scene: &Scene, start: Start) -> Option<(i64, Vec<u8>)>
     })
 }
 
-/// What waits at each record: "An IT record's block is the next count records."
+/// What waits at each record.
 fn waiting(scene: &Scene) -> Vec<Vec<u8>> {
     let mut waiting = vec![Vec::new()];
     for record in &scene.records {
-        let after = match (waiting.last().map(|now| &now[..]), &record[..]) {
-            (Some([]), &[IF_THEN, _, condition, count, elses]) => {
-                let turns = (0..count.min(4)).map(|at| condition ^ (elses << 1) >> at & 1);
-                turns.collect()
-            }
-            (Some([_, rest @ ..]), _) => rest.to_vec(),
-            _ => Vec::new(),
-        };
+        let after = waiting.last().map_or(Vec::new(), |now| after(now, record));
         waiting.push(after);
     }
     waiting
 }
 
 /// Conditions of a good machine, other than these: one less, one more, the inverses, or any.
-fn other(prng: &mut Prng, these: &[u8]) -> Vec<u8> {
+pub fn other(prng: &mut Prng, these: &[u8]) -> Vec<u8> {
     let inverse = |&condition: &u8| if condition == AL { 0 } else { condition ^ 1 };
     let mut other = match (prng.below(4), these) {
         (0, [_, rest @ .., _]) => [&these[..1], rest].concat(),

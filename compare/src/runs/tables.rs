@@ -11,7 +11,9 @@ use super::{spoil, Comparison, ENOUGH, USED_UP};
 use crate::checks::listing::end_of;
 use crate::image::Image;
 use crate::prng::Prng;
+use crate::question::run::Question;
 use crate::Outcome;
+use start::Start;
 
 const SCENES: u64 = 80_000;
 const BASE: u32 = 0x1000;
@@ -25,8 +27,8 @@ pub fn scenes(comparison: &mut Comparison, prng: &mut Prng) -> Outcome {
     Ok(())
 }
 
-/// A program with a table branch, its start, and runs with several budgets.
-fn scene(comparison: &mut Comparison, prng: &mut Prng) -> Outcome {
+/// A program with a table branch and its start, with no budget yet.
+pub fn some(prng: &mut Prng) -> (Start, Question) {
     let code = code::code(prng);
     let end = end_of(&code.records);
     let near_top = (TOP - 2 - end - 2 * i64::from(prng.below(3))) as u32;
@@ -37,7 +39,12 @@ fn scene(comparison: &mut Comparison, prng: &mut Prng) -> Outcome {
     let start = start::start(prng, &code, base, &mut image);
     let lies = Lies::Usual;
     let scene = Scene { records: code.records, base, image, memory, memory_base, lies };
-    let mut question = spoil::question(prng, scene);
+    (start, spoil::question(prng, scene))
+}
+
+/// Runs with several budgets.
+fn scene(comparison: &mut Comparison, prng: &mut Prng) -> Outcome {
+    let (start, mut question) = some(prng);
     question.budget = ENOUGH;
     let (number, count) = comparison.put(&question)?;
     comparison.tables.see(start, &question, comparison.sides.answer());

@@ -3,12 +3,14 @@
 
 use super::block::{Block, Mistake};
 use crate::image::{Image, FLAG_NAMES};
+use crate::question::resume::NONE;
 use crate::question::Lent;
 
 /// More bytes than any memory or listing has.
 const MOST_BYTES: usize = 1 << 22;
 const LISTING_BASE: u32 = 0x1000;
 const MEMORY_BASE: u32 = 0x2000_0000;
+pub const STORED: &str = "stored";
 
 /// The lent memory and its base.
 pub fn lent_memory(block: &Block) -> Result<(u32, Vec<u8>), Mistake> {
@@ -55,8 +57,16 @@ pub fn number(text: &str, highest: u32) -> Result<u32, String> {
     decimal(text).filter(|&number| number <= highest).ok_or_else(|| wrong(text))
 }
 
+/// A stored place: `none`, or a number that is not the one of "none".
+pub fn stored(text: &str) -> Result<u32, String> {
+    match text {
+        "none" => Ok(NONE),
+        _ => number(text, NONE - 1),
+    }
+}
+
 /// `NUMBER at PLACE steps COUNT`: a number after each of the words, the first of which is the line's
-/// own; the first number is at most the highest.
+/// own; the first number is at most the highest, and `stored` has a stored place.
 pub fn report<const N: usize>(
     text: &str,
     highest: u32,
@@ -68,7 +78,10 @@ pub fn report<const N: usize>(
     }
     let mut numbers = [0; N];
     for (place, token) in tokens.iter().skip(1).step_by(2).enumerate() {
-        numbers[place] = number(token, if place == 0 { highest } else { u32::MAX })?;
+        numbers[place] = match words[place] {
+            STORED => stored(token)?,
+            _ => number(token, if place == 0 { highest } else { u32::MAX })?,
+        };
     }
     Ok(numbers)
 }

@@ -15,7 +15,11 @@ use Rattle.machine.specs.Machine.{Outcome}
 use Rattle.machine.specs.Step.{stepped}
 use Rattle.image.specs.Image.{is-image, machine-of, image-of}
 use Rattle.listing.specs.declared.Checked.{Checked}
+use Rattle.run.specs.declared.Stored.{Stored}
+use Rattle.run.specs.declared.Stored.the-variants.{In, None}
+use Rattle.run.specs.declared.Halted.{Halted}
 use Rattle.run.specs.Run.{Rehearsal, state, run-of, Ending, outcome}
+use Rattle.run.specs.Place.{fresh-run, resumed, Halting, halt}
 use Rattle.rehearsal.specs.Program.{Told}
 use Rattle.kinds.specs.Kinds.{listing-length}
 use Rattle.reading.specs.declared.Read.{Read}
@@ -71,6 +75,37 @@ unfoldable pub image-run : ℕ → Rehearsal → List ℕ → List ℕ → List 
 image-run budget h image bytes answer =
     if is-image image && eqb (length answer) 12
     then run-leaving image answer (outcome (run-of budget h (state (machine-of image) bytes)))
+    else run-left 1 image bytes answer
+
+-- a stored place as a number: "none" is 0xFFFFFFFF
+unfoldable pub place-number : Stored → ℕ
+place-number (In p) = p .0
+place-number None = 0xFFFFFFFF
+
+unfoldable pub numbered-place : ℕ → Stored
+numbered-place n = if eqb n 0xFFFFFFFF then None else In (record { 0 = n })
+
+-- "number, place, count and stored place .. as little-endian words"
+unfoldable pub with-place : List ℕ → Halted → List ℕ
+with-place answer a =
+    stored 4 (at-base 0) (with-answer answer (a .number) (a .place .0) (a .count)) 12 (place-number (a .running .stored))
+
+unfoldable pub halt-leaving : List ℕ → List ℕ → Halting → RunLeft
+halt-leaving image answer x =
+    let a = x .answer in run-left (a .number) (image-of image (a .running .machine)) (x .memory) (with-place answer a)
+
+-- a fresh run of a machine's image that tells the stored place
+unfoldable pub image-begun : ℕ → Rehearsal → List ℕ → List ℕ → List ℕ → RunLeft
+image-begun budget h image bytes answer =
+    if is-image image && eqb (length answer) 16
+    then halt-leaving image answer (halt (fresh-run budget h (state (machine-of image) bytes)))
+    else run-left 1 image bytes answer
+
+-- a resume of it from a stored place
+unfoldable pub image-resumed : ℕ → Rehearsal → List ℕ → List ℕ → ℕ → List ℕ → RunLeft
+image-resumed budget h image bytes place answer =
+    if is-image image && eqb (length answer) 16
+    then halt-leaving image answer (halt (resumed budget h (state (machine-of image) bytes) (numbered-place place)))
     else run-left 1 image bytes answer
 
 -- the length of a rehearsal's text, and the lent room after it

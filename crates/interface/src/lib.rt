@@ -1,5 +1,6 @@
 // The C functions of the stepper, on numbers and byte slices: include/simbhoket.h declares them.
 
+ghost use Prim.Native.Nat.{_%_, _^_};
 ghost use mathlib.Core.Path.{_≡_};
 ghost use Rattle.setup.specs.Setup.{at-base};
 ghost use Rattle.little.specs.Little.{byte};
@@ -10,12 +11,15 @@ ghost use Rattle.image.specs.Image.{image-of};
 ghost use Rattle.listing.specs.Check.{checked};
 ghost use Rattle.run.specs.Run.{rehearsal};
 ghost use Rattle.rehearsal.specs.Program.{rehearsed};
-ghost use Rattle.interface.specs.Interface.{left, image-stepped, run-left, with-answer, image-run, text-left, text-laid, pair, measured, way-number, way-read, reported};
+ghost use Rattle.interface.specs.Interface.{left, image-stepped, run-left, with-answer, image-run, place-number, numbered-place, with-place, image-begun, image-resumed, text-left, text-laid, pair, measured, way-number, way-read, reported};
 use flow::Way;
 use machine::Machine;
 use reading::Place;
 use reading::Read;
 use reading::ReadAt;
+use run::Halted;
+use run::Running;
+use run::Stored;
 use setup::Setup;
 
 #[no_mangle]
@@ -95,11 +99,90 @@ pub extern "C" fn simbhoket_run(
 }
 
 #[no_mangle]
+pub extern "C" fn simbhoket_begin(
+    machine: &mut [u8],
+    listing: &[u8],
+    origin: u32,
+    memory: &mut [u8],
+    base: u32,
+    budget: u32,
+    answer: &mut [u8],
+) -> u32
+    ensures { λ n. ⌜ run-left n (now (machine .exit)) (now (memory .exit)) (now (answer .exit)) ≡ image-begun budget (rehearsal (now (listing .entry)) origin (at-base base)) (now (machine .entry)) (now (memory .entry)) (now (answer .entry)) ⌝ }
+{
+    let known = image::is_image_of(machine) & (answer.len() == 16);
+    if known {
+        let before = image::read(machine);
+        let halted = run::begin(before, listing, origin, memory, Setup::new(base), budget);
+        return hand_back(machine, answer, halted);
+    }
+    1
+}
+
+#[no_mangle]
+pub extern "C" fn simbhoket_resume(
+    machine: &mut [u8],
+    listing: &[u8],
+    origin: u32,
+    memory: &mut [u8],
+    base: u32,
+    budget: u32,
+    place: u32,
+    answer: &mut [u8],
+) -> u32
+    ensures { λ n. ⌜ run-left n (now (machine .exit)) (now (memory .exit)) (now (answer .exit)) ≡ image-resumed budget (rehearsal (now (listing .entry)) origin (at-base base)) (now (machine .entry)) (now (memory .entry)) place (now (answer .entry)) ⌝ }
+{
+    let known = image::is_image_of(machine) & (answer.len() == 16);
+    if known {
+        let before = image::read(machine);
+        let stored = stored_of(place);
+        let running = Running {
+            machine: before,
+            stored,
+        };
+        let halted = run::resume(running, listing, origin, memory, Setup::new(base), budget);
+        return hand_back(machine, answer, halted);
+    }
+    1
+}
+
+#[no_mangle]
 pub extern "C" fn simbhoket_rehearse(listing: &[u8], room: &mut [u8]) -> usize
     ensures { λ n. ⌜ text-left n (now (room .exit)) ≡ text-laid (rehearsed (now (listing .entry)) (now (room .entry))) ⌝ }
 {
     let told = rehearsal::rehearse(listing, room);
     told.length
+}
+
+fn hand_back(machine: &mut [u8], answer: &mut [u8], halted: Halted) -> u32
+    ensures { λ n. ⌜ (n ≡ halted .number) × (now (machine .exit) ≡ image-of (now (machine .entry)) (halted .running .machine)) × (now (answer .exit) ≡ with-place (now (answer .entry)) halted) ⌝ }
+{
+    let running = halted.running;
+    let after = running.machine;
+    let stored = running.stored;
+    image::write(machine, after);
+    let place = halted.place.0;
+    tell(answer, halted.number, place, halted.count);
+    memory::store_word(answer, Setup::new(0), 12, place_number_of(stored));
+    halted.number
+}
+
+fn stored_of(place: u32) -> Stored
+    ensures { λ r. ⌜ r ≡ numbered-place place ⌝ }
+{
+    if place == 0xffff_ffff {
+        return Stored::None;
+    }
+    Stored::In(Place(place as usize))
+}
+
+fn place_number_of(stored: Stored) -> u32
+    ensures { λ n. ⌜ n ≡ place-number stored % 2 ^ 32 ⌝ }
+{
+    match stored {
+        Stored::In(place) => (place.0 % 0x1_0000_0000) as u32,
+        Stored::None => 0xffff_ffff,
+    }
 }
 
 fn tell(answer: &mut [u8], number: u32, place: usize, count: u32)

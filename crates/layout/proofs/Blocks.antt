@@ -1,11 +1,13 @@
 -- Blocks along the layout: the conditions that wait at a point are a good list; where none is counted nothing waits.
 use Prim.Native.Nat.{ℕ, _≤_}
-use mathlib.Core.Path.{_≡_, refl, ap}
-use mathlib.Core.Bool.{Bool, true, false, not, _&&_, _||_}
+use mathlib.Core.Path.{_≡_, refl, sym, ap, _∙_}
+use mathlib.Core.Bool.{Bool, true, false, false≢true, not, _&&_, _||_}
 use mathlib.Core.List.{List}
 use native.Mathlib.Omega.{arith}
 use borrow.Author.Tests.{eqb-true, eq-eqb, leb-true, leb-false}
 use lib.Dec.{eqb, leb}
+use lib.ListN.{length}
+use Rattle.word.specs.Choice.{if_then_else_}
 use Rattle.word.proofs.Cases.{both-true, neither}
 use Rattle.waiting.specs.Waiting.{nothing, waiting-count, dropped}
 use Rattle.waiting.proofs.Good.{Good, good-nothing, good-dropped, good-block}
@@ -17,11 +19,15 @@ use Rattle.fields.specs.Fields.{well-formed, elses-fit}
 use Rattle.restricted.specs.Restricted.{allowed}
 use Rattle.flow.specs.Flow.{traits, after, leaves, fills, way, misplaced}
 use Rattle.flow.proofs.Laws.{after-holds, leaves-no-filler}
+use Rattle.reading.specs.declared.Place.{Place}
+use Rattle.reading.specs.declared.ReadAt.{ReadAt}
+use Rattle.reading.specs.declared.ReadAt.the-variants.{Found, Nothing}
+use Rattle.reading.specs.Reading.{read-at}
 use Rattle.reading.proofs.Places.{ahead}
 use Rattle.judge.specs.Judge.{refusal}
 use Rattle.judge.proofs.Laws.{not-refused}
 use Rattle.layout.specs.declared.Point.{Point}
-use Rattle.layout.specs.Layout.{Met, Onward, AtEnd, Refusal, start, free, next, refusal-at, meets, filled}
+use Rattle.layout.specs.Layout.{Met, Onward, AtEnd, Refusal, start, free, next, refusal-at, judged-at, meets, filled}
 use Rattle.layout.proofs.Points.{onto}
 use Rattle.layout.proofs.Members.{On, on-holds}
 
@@ -104,3 +110,30 @@ module _ (listing : List ℕ) (base : ℕ) (p : Point) (o : On listing base p) w
       let spot = not-refused r n (unrefused listing p r q e (leaves-no-filler (way r) l)) .1 in
       let two = neither (traits r .alone && leb 1 n) (leaves (way r) && leb 2 n) spot .1 in
       one-waits (p .waiting) on-good (omega (arith, leb-false 2 n (rw l at two)))
+
+-- where no filler stands it plays no part whether one may
+abbrev pub unparted-at : Point → Point
+unparted-at p = record { place = p .place; address = p .address; waiting = p .waiting; parted = false }
+
+pub parted-aside : (listing : List ℕ) (p : Point) → filled (meets listing p) ≡ false → meets listing (unparted-at p) ≡ meets listing p
+unfolding meets judged-at refusal-at next free filled
+parted-aside listing p = go (eqb (p .place .0) (length listing))
+  where
+    judged : (r : Record) (place : Place) (f t : Bool) → fills (way r) ≡ f
+        → let number = if f then (if t then 0 else 4) else refusal r (waiting-count (p .waiting)) in
+        filled (if eqb number 0 then Onward r (next r place p) else Refusal number) ≡ false
+        → let other = if f then 4 else refusal r (waiting-count (p .waiting)) in
+        _≡_ {A = Met} (if eqb other 0 then Onward r (next r place p) else Refusal other) (if eqb number 0 then Onward r (next r place p) else Refusal number)
+    judged r place true true e n = absurd (false≢true (sym n ∙ e))
+    judged r place true false e n = refl
+    judged r place false t e n = refl
+
+    read : (x : ReadAt) → filled (judged-at x p) ≡ false → judged-at x (unparted-at p) ≡ judged-at x p
+    read (Found r place) n = judged r place (fills (way r)) (p .parted) refl n
+    read Nothing n = refl
+
+    go : (t : Bool) → filled (if t then AtEnd else judged-at (read-at listing (p .place .0)) p) ≡ false
+        → _≡_ {A = Met} (if t then AtEnd else judged-at (read-at listing (p .place .0)) (unparted-at p))
+        (if t then AtEnd else judged-at (read-at listing (p .place .0)) p)
+    go true n = refl
+    go false n = read (read-at listing (p .place .0)) n

@@ -17,7 +17,8 @@ use Rattle.layout.specs.declared.Sought.the-variants.{At, Nowhere}
 use Rattle.layout.specs.declared.AtAddress.{AtAddress}
 use Rattle.layout.specs.declared.AtAddress.the-variants.{Stands, End, Stray}
 use Rattle.layout.specs.Layout.{Met, Onward, AtEnd, Refusal, start, meets, followed, walk, layout, sought, standing, standing-at, at-address}
-use Rattle.layout.proofs.Points.{Within, within-start, within-next, onto, rises, walk-from, walk-more}
+use Rattle.layout.proofs.Points.{Within, within-start, within-next, onto, rises, walk-from, walk-more, walk-end, walk-refused}
+use Rattle.layout.proofs.Turns.{none-below}
 
 -- a point of the layout
 abbrev pub On : List ℕ → ℕ → Point → Type 0
@@ -82,10 +83,10 @@ module _ (listing : List ℕ) (base : ℕ) where
           let enough : 0 < count = omega (arith, within-next listing s r q g base w .inside, rises listing s r q g) in
           rw (walk-more listing s count r q g, walk-from listing q count enough) (List·Memᴰ·tail (List·Memᴰ·head refl))
 
-  sought-later : (count : ℕ) (s p : Point) (r : Record) (q : Point) → meets listing s ≡ Onward r q → s .address .0 < p .address .0
-      → sought (p .address .0) (walk (suc count) listing s) ≡ sought (p .address .0) (walk count listing q)
+  sought-later : (address count : ℕ) (s : Point) (r : Record) (q : Point) → meets listing s ≡ Onward r q → s .address .0 < address
+      → sought address (walk (suc count) listing s) ≡ sought address (walk count listing q)
   unfolding sought
-  sought-later count s p r q e h = rw (walk-more listing s count r q e, ne-eqb (s .address .0) (p .address .0) (λ z. omega arith))
+  sought-later address count s r q e h = rw (walk-more listing s count r q e, ne-eqb (s .address .0) address (λ z. omega arith))
 
   sought-first : (count : ℕ) (s : Point) → sought (s .address .0) (walk (suc count) listing s) ≡ At s
   unfolding walk sought
@@ -97,7 +98,31 @@ module _ (listing : List ℕ) (base : ℕ) where
   member-sought (suc count) s p m =
       first-or-later count s p (sought (p .address .0) (walk (suc count) listing s) ≡ At p) (λ e. rw e (sought-first count s))
       (λ r q e n.
-      sought-later count s p r q e (omega (arith, member-above count q p n, rises listing s r q e)) ∙ member-sought count q p n) m
+      sought-later (p .address .0) count s r q e (omega (arith, member-above count q p n, rises listing s r q e)) ∙ member-sought count q p n) m
+
+  sought-last : (address count : ℕ) (s : Point) → walk (suc count) listing s ≡ s ∷ [] → s .address .0 < address
+      → sought address (walk (suc count) listing s) ≡ Nowhere
+  unfolding sought
+  sought-last address count s e h = rw (e, ne-eqb (s .address .0) address (λ z. omega arith))
+
+  -- and none is between that of a member and the next
+  first-gap : (address count : ℕ) (s : Point) → s .address .0 < address
+      → ((r : Record) (q : Point) → meets listing s ≡ Onward r q → address < q .address .0) → sought address (walk (suc count) listing s) ≡ Nowhere
+  first-gap address count s low high = go (meets listing s) refl
+    where
+      go : (t : Met) → meets listing s ≡ t → sought address (walk (suc count) listing s) ≡ Nowhere
+      go (Onward r q) e = sought-later address count s r q e low ∙ none-below listing address count q (high r q e)
+      go AtEnd e = sought-last address count s (walk-end listing s (suc count) (omega arith) e) low
+      go (Refusal number) e = sought-last address count s (walk-refused listing s (suc count) (omega arith) number e) low
+
+  sought-gap : (address count : ℕ) (s p : Point) → List·Memᴰ p (walk count listing s) → p .address .0 < address
+      → ((r : Record) (q : Point) → meets listing p ≡ Onward r q → address < q .address .0) → sought address (walk count listing s) ≡ Nowhere
+  sought-gap address zero s p m low high = absurd (none s p m)
+  sought-gap address (suc count) s p m low high =
+      first-or-later count s p (sought address (walk (suc count) listing s) ≡ Nowhere)
+      (λ e. first-gap address count s (rw e at low) (rw e at high))
+      (λ r q e n.
+      sought-later address count s r q e (omega (arith, member-above count q p n, rises listing s r q e)) ∙ sought-gap address count q p n low high) m
 
   -- ---- the layout
   pub start-on : On listing base (start base)
@@ -121,6 +146,17 @@ module _ (listing : List ℕ) (base : ℕ) where
     pub on-found : at-address listing base (p .address .0) ≡ standing (meets listing p) p
     unfolding at-address standing-at layout
     on-found = rw (member-sought (length listing + 1) (start base) p o)
+
+    -- and nothing stands between its address and the next
+    pub on-gap : (address : ℕ) → p .address .0 < address → ((r : Record) (q : Point) → meets listing p ≡ Onward r q → address < q .address .0)
+        → at-address listing base address ≡ Stray
+    unfolding at-address standing-at layout
+    on-gap address low high = rw (sought-gap address (length listing + 1) (start base) p o low high)
+
+  -- nor below the first
+  pub below-start : (address : ℕ) → address < base → at-address listing base address ≡ Stray
+  unfolding at-address standing-at layout start
+  below-start address h = rw (none-below listing address (length listing + 1) (start base) h)
 
   -- a record that was found at an address stands at a point of the layout
   pub record Standing (address : ℕ) (r : Record) (p : Point) : Type 0 where

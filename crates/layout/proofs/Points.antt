@@ -77,6 +77,23 @@ module _ (listing : List ℕ) (p : Point) where
       go true e z = let y : _≡_ {A = ℕ} 0 1 = cc in omega arith
       go false e z = judged-refused (read-at listing (p .place .0)) number e z
 
+  pub end-place : meets listing p ≡ AtEnd → p .place .0 ≡ length listing
+  unfolding meets judged-at
+  end-place = go (eqb (p .place .0) (length listing)) refl
+    where
+      judged : (x : ReadAt) → judged-at x p ≡ AtEnd → ⊥
+      judged (Found r place) e = let n = refusal-at r p in chosen (eqb n 0) e
+        where
+          chosen : (t : Bool) → _≡_ {A = Met} (if t then Onward r (next r place p) else Refusal (refusal-at r p)) AtEnd → ⊥
+          chosen true e = let z : _≡_ {A = ℕ} 0 1 = cc in omega arith
+          chosen false e = let z : _≡_ {A = ℕ} 0 1 = cc in omega arith
+      judged Nothing e = let z : _≡_ {A = ℕ} 0 1 = cc in omega arith
+
+      go : (t : Bool) → eqb (p .place .0) (length listing) ≡ t
+          → _≡_ {A = Met} (if t then AtEnd else judged-at (read-at listing (p .place .0)) p) AtEnd → p .place .0 ≡ length listing
+      go true t e = eqb-true (p .place .0) (length listing) t
+      go false t e = absurd (judged (read-at listing (p .place .0)) e)
+
 -- the places and addresses that the walk can come to: a record has at least 2 listing bytes and less than 2^16 machine bytes
 pub record Within (listing : List ℕ) (base : ℕ) (p : Point) : Type 0 where
   pub inside : p .place .0 ≤ length listing

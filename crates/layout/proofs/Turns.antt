@@ -92,7 +92,7 @@ module _ (listing : List ℕ) (p : Point) (t : Seen) (is : t ≡ seen (meets lis
 
 -- ---- the search for an address
 -- addresses rise, so none of the points from one on has a lower address
-none-below : (listing : List ℕ) (address count : ℕ) (p : Point) → address < p .address .0 → sought address (walk count listing p) ≡ Nowhere
+pub none-below : (listing : List ℕ) (address count : ℕ) (p : Point) → address < p .address .0 → sought address (walk count listing p) ≡ Nowhere
 unfolding walk sought
 none-below listing address zero p h = refl
 none-below listing address (suc count) p h =

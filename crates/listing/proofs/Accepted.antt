@@ -22,7 +22,8 @@ use Rattle.layout.proofs.Points.{refused-number, rises}
 use Rattle.layout.proofs.Members.{On, on-within, next-on}
 use Rattle.layout.proofs.Blocks.{nothing-waits}
 use Rattle.listing.specs.declared.Checked.{Checked}
-use Rattle.listing.specs.Check.{report, lowest, end-fault, fault, lands-here, lands-at, lands, landing, astray, branch-fault, first-pass, second-pass, checked}
+use Rattle.landing.specs.Landing.{lands-here, lands-at, lands, landing}
+use Rattle.listing.specs.Check.{report, lowest, end-fault, fault, astray, branch-fault, first-pass, second-pass, checked}
 
 abbrev pub Accepted : List ℕ → ℕ → Type 0
 Accepted listing base = checked listing base .number ≡ 0

@@ -1,10 +1,11 @@
 -- What the table of landing places says of a branch.
-use Prim.Native.Nat.{ℕ, _+_, _%_, _^_}
+use Prim.Native.Nat.{ℕ, _+_, _%_, _^_, _≤_}
 use mathlib.Core.Path.{_≡_, refl, ap, _∙_}
 use mathlib.Core.Bool.{Bool, true, false, not, _||_}
 use mathlib.Core.List.{List, [], _∷_}
 use native.Mathlib.Omega.{arith}
 use lib.IntN.{ℤ}
+use lib.ListN.{length}
 use Rattle.word.specs.Choice.{if_then_else_}
 use Rattle.flow.specs.Flow.{target}
 use Rattle.flow.specs.declared.Way.{Way}
@@ -12,10 +13,18 @@ use Rattle.flow.specs.declared.Way.the-variants.{Next, Direct, Taken, Fills}
 use Rattle.layout.specs.declared.Point.{Point}
 use Rattle.layout.specs.Layout.{meets, layout}
 use Rattle.layout.proofs.Turns.{Passed}
-use Rattle.listing.specs.declared.landing.Placed.{Placed}
-use Rattle.listing.specs.declared.landing.Placed.the-variants.{At}
-use Rattle.listing.specs.Check.{lands-at, lands, landing, astray, branch-fault}
-use Rattle.listing.specs.Code.{Table, looked-up, there, is-listed, landing-place, Tells}
+use Rattle.landing.specs.declared.Last.{Last}
+use Rattle.landing.specs.Landing.{lands-at, lands, landing}
+use Rattle.landing.specs.Code.{Table, table, tabled, last-to, Found, there, is-listed, landing-place, Sorted, Tells}
+use Rattle.landing.proofs.Halves.{hits, last-listed}
+use Rattle.landing.proofs.Tabling.{tells}
+use Rattle.listing.specs.Check.{astray, branch-fault, first-pass}
+use Rattle.listing.proofs.Accepted.{sound-low}
+
+-- the code's table of a listing that the first pass leaves is that of its landing places
+pub table-tells : (listing : List ℕ) (base : ℕ) → length listing ≤ 65536 → first-pass listing base .number ≡ 0 → (addresses places : List ℕ)
+    → length addresses ≡ 32769 → length places ≡ 32769 → Tells (tabled listing base (table addresses places 0)) listing base
+table-tells listing base size sound = tells listing base size (λ p o. omega (arith, sound-low listing base sound p o))
 
 pub target-mod : (address : ℕ) (w : Way) → target (address % 2 ^ 32) w ≡ target address w
 unfolding target
@@ -24,11 +33,12 @@ target-mod address (Direct offset) = let e : (address % 2 ^ 32 + 4) % 2 ^ 32 ≡
 target-mod address Taken = refl
 target-mod address Fills = refl
 
--- a direct branch is astray where its target is not found
-pub astray-by : (t : Table) (w : Way) (address to : ℕ) (found : Placed) (offset : ℤ) → to ≡ target (address % 2 ^ 32) w → w ≡ Direct offset
-    → found ≡ looked-up t to → not (there found) ≡ astray (is-listed t) w address
+-- a direct branch is astray where the last landing place that is not above its target is another
+pub astray-by : (t : Table) → Sorted t → (w : Way) (address to : ℕ) (found : Last) (offset : ℤ) → to ≡ target (address % 2 ^ 32) w → w ≡ Direct offset
+    → found ≡ last-to t to → not (hits found to) ≡ astray (is-listed t) w address
 unfolding astray
-astray-by t w address to found offset e f g = rw (g, e, target-mod address w, f)
+astray-by t sorted w address to found offset e f g =
+    rw (g, ← last-listed t sorted to, e, target-mod address w, f)
 
 place-lands : (listing : List ℕ) (address : ℕ) (ps : List Point) → there (landing-place listing address ps) ≡ lands listing address ps
 unfolding landing-place lands
@@ -36,7 +46,7 @@ place-lands listing address [] = refl
 place-lands listing address (p ∷ ps) = go (place-lands listing address ps) (lands-at listing address p)
   where
     go : there (landing-place listing address ps) ≡ lands listing address ps → (t : Bool)
-        → there (if t then At (p .place) else landing-place listing address ps) ≡ (t || lands listing address ps)
+        → there (if t then Found (p .place) else landing-place listing address ps) ≡ (t || lands listing address ps)
     go rest true = refl
     go rest false = rest
 

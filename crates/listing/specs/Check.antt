@@ -1,7 +1,7 @@
 -- "The check reads all records first and reports 2, 3, 4 at the lowest place, the lowest number there .. Then comes the
 -- end address (1), then the lowest place with 9. .. An accepted listing reports place 0."
 use Prim.Native.Nat.{ℕ}
-use mathlib.Core.Bool.{Bool, false, not, _&&_, _||_}
+use mathlib.Core.Bool.{Bool, false, not, _||_}
 use mathlib.Core.List.{List, [], _∷_}
 use lib.Dec.{ltb, eqb}
 use lib.ListN.{length}
@@ -11,7 +11,8 @@ use Rattle.flow.specs.Flow.{way, target}
 use Rattle.flow.specs.declared.Way.{Way}
 use Rattle.flow.specs.declared.Way.the-variants.{Next, Direct, Taken, Fills}
 use Rattle.layout.specs.declared.Point.{Point}
-use Rattle.layout.specs.Layout.{Met, Onward, AtEnd, Refusal, free, meets, layout, filled}
+use Rattle.layout.specs.Layout.{Met, Onward, AtEnd, Refusal, free, meets, layout}
+use Rattle.landing.specs.Landing.{landing}
 use Rattle.listing.specs.declared.Checked.{Checked}
 
 abbrev pub report : ℕ → ℕ → Checked
@@ -30,21 +31,6 @@ unfoldable pub fault : Met → Point → ℕ
 fault (Onward r q) p = 0
 fault AtEnd p = end-fault p
 fault (Refusal number) p = number
-
--- is a point outside all blocks, and without a filler?
-unfoldable pub lands-here : List ℕ → Point → Bool
-lands-here listing p = free p && not (filled (meets listing p))
-
-abbrev pub lands-at : List ℕ → ℕ → Point → Bool
-lands-at listing address p = eqb (p .address .0) address && lands-here listing p
-
-unfoldable pub lands : List ℕ → ℕ → List Point → Bool
-lands listing address [] = false
-lands listing address (p ∷ ps) = lands-at listing address p || lands listing address ps
-
--- "Landing places are addresses of records outside all blocks, and the end address." Order 1: "A filler is no landing place"
-unfoldable pub landing : List ℕ → ℕ → ℕ → Bool
-landing listing base address = lands listing address (layout listing base)
 
 -- "direct branch to a non-landing place"
 unfoldable pub astray : (ℕ → Bool) → Way → ℕ → Bool

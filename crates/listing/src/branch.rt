@@ -3,11 +3,11 @@
 ghost use mathlib.Core.Path.{_≡_};
 ghost use Prim.Native.Nat.{_≤_};
 ghost use lib.ListN.{length};
+ghost use Rattle.landing.specs.Code.{table, is-listed, Sorted, Tells};
 ghost use Rattle.listing.specs.Check.{astray, first-pass, second-pass};
-ghost use Rattle.listing.specs.Code.{table, is-listed, Sorted, Tells};
 use crate::Checked;
-use crate::landing::Placed;
 use flow::Way;
+use landing::Last;
 use layout::Address;
 use layout::Seen;
 
@@ -17,7 +17,7 @@ pub fn second_pass_of(listing: &[u8], base: u32) -> Checked
 {
     let mut addresses = [0u32; 32769];
     let mut places = [0u32; 32769];
-    let count = crate::landing::list_all(listing, base, &mut addresses, &mut places);
+    let count = landing::list_all(listing, base, &mut addresses, &mut places);
     lowest_astray(listing, base, &addresses, &places, count)
 }
 
@@ -60,9 +60,10 @@ fn is_astray(addresses: &[u32], places: &[u32], count: usize, w: Way, address: A
         Way::Next => false,
         Way::Direct(_) => {
             let from = (address.0 % 0x1_0000_0000) as u32;
-            match crate::landing::place_of(addresses, places, count, flow::target_of(from, w)) {
-                Placed::At(_) => false,
-                Placed::Nowhere => true,
+            let to = flow::target_of(from, w);
+            match landing::last_to(addresses, places, count, to) {
+                Last::At(found) => found.address != to,
+                Last::None => true,
             }
         }
         Way::Taken => false,

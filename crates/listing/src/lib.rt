@@ -8,7 +8,6 @@ ghost use Rattle.word.specs.Choice.{if_then_else_};
 ghost use Rattle.listing.specs.Check.{report, end-fault, first-pass, checked};
 
 mod branch;
-mod landing;
 
 use layout::Point;
 use layout::Seen;

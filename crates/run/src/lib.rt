@@ -1,12 +1,19 @@
-// The run of a listing: its steps repeated, within a budget.
+// The run of a listing: its steps repeated, within a budget. The running machine has the place of the record at R15 beside it.
 
 ghost use mathlib.Core.Path.{_≡_};
-ghost use Rattle.layout.specs.Layout.{at-address};
-ghost use Rattle.run.specs.Run.{rehearsal, state, agreeing, round, rounds, run-of, ending, outcome};
-ghost use Rattle.run.specs.Code.{sight, used-up-at, handed, round-handed, stopped};
-use layout::AtAddress;
+ghost use lib.ListN.{length};
+ghost use Rattle.landing.specs.Code.{table};
+ghost use Rattle.listing.specs.Check.{checked};
+ghost use Rattle.machine.specs.Machine.{PC, held};
+ghost use Rattle.run.specs.Run.{rehearsal, state, round, rounds, run-of, ending, outcome};
+ghost use Rattle.run.specs.Place.{same-place, fresh-run, resumed, halting, halt};
+ghost use Rattle.run.specs.Code.{seat, seat-at, Known, seen-from, facing, used-up-at, handed, round-handed, arrived, set-out, proceeded};
+
+mod seat;
+
 use machine::Machine;
 use reading::Place;
+use seat::Seat;
 use setup::Setup;
 use waiting::Waiting;
 
@@ -18,6 +25,25 @@ pub struct Ran {
     pub machine: Machine,
 }
 
+// The place of the record at R15, the listing's length at the end address, or "none".
+pub enum Stored {
+    In(Place),
+    None,
+}
+
+pub struct Running {
+    pub machine: Machine,
+    pub stored: Stored,
+}
+
+// The same of a running machine.
+pub struct Halted {
+    pub number: u32,
+    pub place: Place,
+    pub count: u32,
+    pub running: Running,
+}
+
 // What a machine faces.
 pub enum Sight {
     AtRecord(Place),
@@ -25,12 +51,13 @@ pub enum Sight {
     AtNone,
 }
 
-// A round: whether the run is over, with which number and place; and the machine after it.
+// A round: whether the run is over, with which number and place; the machine after it, and where that is.
 pub struct Taken {
     pub over: bool,
     pub number: u32,
     pub place: Place,
     pub machine: Machine,
+    pub seat: Seat,
 }
 
 pub fn run(
@@ -43,84 +70,239 @@ pub fn run(
 ) -> Ran
     ensures { λ r. ⌜ ending r (now (memory .exit)) ≡ outcome (run-of budget (rehearsal (now (listing .entry)) base setup) (state machine (now (memory .entry)))) ⌝ }
 {
-    let fine = machine.is_good() & setup::is_fit(memory, setup);
-    if fine {
-        let checked = listing::check(listing, base);
-        let accepted = checked.number == 0;
-        if accepted {
-            return repeat(machine, listing, base, memory, setup, budget);
-        }
-        let place = checked.place;
-        return stop(checked.number, place, machine);
-    }
-    stop(1, Place(0), machine)
-}
-
-// A run without a step.
-fn stop(number: u32, place: Place, machine: Machine) -> Ran
-    ensures { λ r. ⌜ r ≡ stopped number place machine ⌝ }
-{
+    let halted = begin(machine, listing, base, memory, setup, budget);
+    let place = halted.place;
+    let running = halted.running;
+    let after = running.machine;
     Ran {
-        number,
+        number: halted.number,
         place,
-        count: 0,
-        machine,
+        count: halted.count,
+        machine: after,
     }
 }
 
-// The rounds, to the end of the run or of the budget.
-fn repeat(
+// A fresh run.
+pub fn begin(
     machine: Machine,
     listing: &[u8],
     base: u32,
     memory: &mut [u8],
     setup: Setup,
     budget: u32,
-) -> Ran
-    ensures { λ r. ⌜ ending r (now (memory .exit)) ≡ outcome (rounds budget (rehearsal (now (listing .entry)) base setup) (state machine (now (memory .entry)))) ⌝ }
+) -> Halted
+    ensures { λ r. ⌜ halting r (now (memory .exit)) ≡ halt (fresh-run budget (rehearsal (now (listing .entry)) base setup) (state machine (now (memory .entry)))) ⌝ }
+{
+    let running = Running {
+        machine,
+        stored: Stored::None,
+    };
+    proceed(running, true, listing, base, memory, setup, budget)
+}
+
+// A run from a machine whose stored place has to be that of R15.
+pub fn resume(
+    running: Running,
+    listing: &[u8],
+    base: u32,
+    memory: &mut [u8],
+    setup: Setup,
+    budget: u32,
+) -> Halted
+    ensures { λ r. ⌜ halting r (now (memory .exit)) ≡ halt (resumed budget (rehearsal (now (listing .entry)) base setup) (state (running .machine) (now (memory .entry))) (running .stored)) ⌝ }
+{
+    proceed(running, false, listing, base, memory, setup, budget)
+}
+
+fn proceed(
+    running: Running,
+    anew: bool,
+    listing: &[u8],
+    base: u32,
+    memory: &mut [u8],
+    setup: Setup,
+    budget: u32,
+) -> Halted
+    ensures { λ r. ⌜ halting r (now (memory .exit)) ≡ halt (proceeded anew budget (rehearsal (now (listing .entry)) base setup) (state (running .machine) (now (memory .entry))) (running .stored)) ⌝ }
+{
+    let machine = running.machine;
+    let fine = machine.is_good() & setup::is_fit(memory, setup);
+    if fine {
+        let checked = listing::check(listing, base);
+        let accepted = checked.number == 0;
+        if accepted {
+            return go(running, anew, listing, base, memory, setup, budget);
+        }
+        let place = checked.place;
+        return stop(checked.number, place, running);
+    }
+    stop(1, Place(0), running)
+}
+
+// A run without a step.
+fn stop(number: u32, place: Place, running: Running) -> Halted
+    ensures { λ r. ⌜ r ≡ record { number = number; place = place; count = 0; running = running } ⌝ }
+{
+    Halted {
+        number,
+        place,
+        count: 0,
+        running,
+    }
+}
+
+// A run of an accepted listing.
+fn go(
+    running: Running,
+    anew: bool,
+    listing: &[u8],
+    base: u32,
+    memory: &mut [u8],
+    setup: Setup,
+    budget: u32,
+) -> Halted
+    requires { ⌜ checked (now listing) base .number ≡ 0 ⌝ }
+    ensures { λ r. ⌜ halting r (now (memory .exit)) ≡ halt (set-out anew budget (rehearsal (now (listing .entry)) base setup) (state (running .machine) (now (memory .entry))) (running .stored)) ⌝ }
+{
+    let mut addresses = [0u32; 32769];
+    let mut places = [0u32; 32769];
+    let entries = landing::list_all(listing, base, &mut addresses, &mut places);
+    let machine = running.machine;
+    let address = machine.register(Machine::PC);
+    let at = seat::find(listing, base, &addresses, &places, entries, address);
+    let given = running.stored;
+    let found = at.stored;
+    let agrees = anew | is_same(given, found);
+    if agrees {
+        return repeat(
+            machine,
+            at,
+            listing,
+            base,
+            &addresses,
+            &places,
+            entries,
+            memory,
+            setup,
+            budget,
+        );
+    }
+    stop(1, Place(0), running)
+}
+
+fn is_same(a: Stored, b: Stored) -> bool
+    ensures { λ r. ⌜ r ≡ same-place a b ⌝ }
+{
+    match a {
+        Stored::In(place) => match b {
+            Stored::In(other) => place.0 == other.0,
+            Stored::None => false,
+        },
+        Stored::None => match b {
+            Stored::In(_) => false,
+            Stored::None => true,
+        },
+    }
+}
+
+// The rounds, to the end of the run or of the budget.
+fn repeat(
+    machine: Machine,
+    seat: Seat,
+    listing: &[u8],
+    base: u32,
+    addresses: &[u32],
+    places: &[u32],
+    entries: usize,
+    memory: &mut [u8],
+    setup: Setup,
+    budget: u32,
+) -> Halted
+    requires { ⌜ Known (now listing) base (table (now addresses) (now places) entries) × (seat ≡ seat-at (now listing) base (held machine PC)) ⌝ }
+    ensures { λ r. ⌜ halting r (now (memory .exit)) ≡ (let h = rehearsal (now (listing .entry)) base setup in halt (arrived h (rounds budget h (state machine (now (memory .entry)))))) ⌝ }
 {
     let mut count = 0;
     let mut m = machine;
+    let mut at = seat;
     while count < budget {
         let next = count + 1;
-        let round = take(m, listing, base, memory, setup);
+        let round = take(
+            m,
+            at,
+            listing,
+            base,
+            addresses,
+            places,
+            entries,
+            memory,
+            setup,
+        );
         m = round.machine;
+        at = round.seat;
         let over = round.over;
         if over {
-            let at = round.place;
-            return Ran {
-                number: round.number,
-                place: at,
-                count,
-                machine: m,
-            };
+            let place = round.place;
+            return end(round.number, place, count, m, at);
         }
         count = next;
     }
     let waiting = m.waiting;
-    let number = used_up_of(see(m.register(Machine::PC), waiting, listing, base));
-    Ran {
+    let number = used_up_of(face(at, waiting, listing.len()));
+    end(number, Place(0), count, m, at)
+}
+
+fn end(number: u32, place: Place, count: u32, machine: Machine, seat: Seat) -> Halted
+    ensures { λ r. ⌜ r ≡ record { number = number; place = place; count = count; running = record { machine = machine; stored = seat .stored } } ⌝ }
+{
+    let stored = seat.stored;
+    let running = Running { machine, stored };
+    Halted {
         number,
-        place: Place(0),
+        place,
         count,
-        machine: m,
+        running,
     }
 }
 
-fn take(machine: Machine, listing: &[u8], base: u32, memory: &mut [u8], setup: Setup) -> Taken
-    ensures { λ r. ⌜ handed r (now (memory .exit)) ≡ round-handed (round (rehearsal (now (listing .entry)) base setup) (state machine (now (memory .entry)))) (state machine (now (memory .entry))) ⌝ }
+fn take(
+    machine: Machine,
+    seat: Seat,
+    listing: &[u8],
+    base: u32,
+    addresses: &[u32],
+    places: &[u32],
+    entries: usize,
+    memory: &mut [u8],
+    setup: Setup,
+) -> Taken
+    requires { ⌜ Known (now listing) base (table (now addresses) (now places) entries) × (seat ≡ seat-at (now listing) base (held machine PC)) ⌝ }
+    ensures { λ r. ⌜ handed r (now (memory .exit)) ≡ (let h = rehearsal (now (listing .entry)) base setup in let s = state machine (now (memory .entry)) in round-handed h (round h s) s) ⌝ }
 {
     let waiting = machine.waiting;
-    match see(machine.register(Machine::PC), waiting, listing, base) {
+    match face(seat, waiting, listing.len()) {
         Sight::AtRecord(place) => {
+            let from = machine.register(Machine::PC);
             let part = reading::part_of(listing, place);
             let stepped = machine.step(part, memory, setup);
             let after = stepped.machine;
+            let to = after.register(Machine::PC);
+            let due = seat.due;
             Taken {
                 over: 0 < stepped.number,
                 number: stepped.number,
                 place,
                 machine: after,
+                seat: seat::follow(
+                    listing,
+                    base,
+                    addresses,
+                    places,
+                    entries,
+                    place,
+                    due,
+                    from,
+                    to,
+                ),
             }
         }
         Sight::AtEnd => Taken {
@@ -128,38 +310,43 @@ fn take(machine: Machine, listing: &[u8], base: u32, memory: &mut [u8], setup: S
             number: 0,
             place: Place(0),
             machine,
+            seat,
         },
         Sight::AtNone => Taken {
             over: true,
             number: 8,
             place: Place(0),
             machine,
+            seat,
         },
     }
 }
 
-// What stands at an address, if the layout's conditions wait there.
-fn see(address: u32, waiting: Waiting, listing: &[u8], base: u32) -> Sight
-    ensures { λ t. ⌜ t ≡ sight (agreeing (at-address (now (listing .entry)) base address) waiting) ⌝ }
+// What is seen from a seat, with these conditions waiting.
+fn face(seat: Seat, waiting: Waiting, length: usize) -> Sight
+    ensures { λ t. ⌜ t ≡ facing seat waiting length ⌝ }
 {
-    match layout::found(listing, base, address) {
-        AtAddress::Stands(_, point) => {
-            let due = point.waiting;
-            let same = waiting.is_same(due);
-            if same {
-                let place = point.place;
-                return Sight::AtRecord(place);
-            }
-            Sight::AtNone
-        }
-        AtAddress::End => {
-            let same = waiting.is_same(Waiting::nothing());
-            if same {
+    let due = seat.due;
+    let same = waiting.is_same(due);
+    if same {
+        let stored = seat.stored;
+        return sight_of(stored, length);
+    }
+    Sight::AtNone
+}
+
+fn sight_of(stored: Stored, length: usize) -> Sight
+    ensures { λ t. ⌜ t ≡ seen-from stored length ⌝ }
+{
+    match stored {
+        Stored::In(place) => {
+            let at_end = place.0 == length;
+            if at_end {
                 return Sight::AtEnd;
             }
-            Sight::AtNone
+            Sight::AtRecord(place)
         }
-        AtAddress::Stray => Sight::AtNone,
+        Stored::None => Sight::AtNone,
     }
 }
 

@@ -1,6 +1,7 @@
 //! What the tests share. Each test file uses some of it.
 #![allow(dead_code)]
 
+pub mod places;
 pub mod tables;
 
 use second::machine::Machine;

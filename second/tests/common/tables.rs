@@ -1,4 +1,4 @@
-//! What the tests of order 1 of paper 02 share: a check, a run and a step in few words, and the records that may stand before a filler.
+//! What the tests of orders 1 and 6 of paper 02 share: a check, a run and a step in few words, and the records that may stand before a filler.
 
 use super::*;
 use second::check::check;

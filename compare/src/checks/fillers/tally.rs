@@ -152,7 +152,7 @@ impl Fillers {
             _ => 3,
         });
         if let Some(item) = items.last() {
-            if item.waiting > 0 || sort_of(item.record) >= REFUSED {
+            if item.waiting() > 0 || sort_of(item.record) >= REFUSED {
                 self.ill_formed.add(5);
             }
         }
@@ -165,7 +165,7 @@ impl Fillers {
             _ => return,
         };
         let sort = sort_of(before.record);
-        match (filler.waiting, before.waiting) {
+        match (filler.waiting(), before.waiting()) {
             (0, 0) => self.outside.add(sort),
             (0, _) => self.last[usize::from(condition(&items[..at]) == AL)].add(sort),
             (waiting, _) => {
@@ -178,14 +178,12 @@ impl Fillers {
     fn tables(&mut self, items: &[Item], at: usize, number: u32, here: Option<u8>) {
         if number == 0 {
             for item in items.iter().filter(|item| item.record[0] == TABLE_BRANCH) {
-                self.table(item, usize::from(item.waiting > 0));
+                self.table(item, usize::from(item.waiting() > 0));
             }
         }
         match (number, here, items.get(at)) {
             (2, Some(TABLE_BRANCH), _) => self.tables.add(MALFORMED_TABLE),
-            (3, Some(TABLE_BRANCH), Some(item)) => {
-                self.table(item, 3 + item.waiting.min(2) as usize)
-            }
+            (3, Some(TABLE_BRANCH), Some(item)) => self.table(item, 3 + item.waiting().min(2)),
             (4, Some(TABLE_BRANCH), Some(item)) => self.table(item, 2),
             _ => (),
         }
@@ -216,7 +214,7 @@ impl Fillers {
 
 /// Of the block that the records end in.
 fn condition(items: &[Item]) -> u8 {
-    let it = items.iter().rev().find(|item| item.waiting == 0);
+    let it = items.iter().rev().find(|item| item.waiting() == 0);
     it.map_or(0, |item| item.record.get(2).copied().unwrap_or(0))
 }
 

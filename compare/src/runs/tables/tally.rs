@@ -5,6 +5,7 @@ use crate::counts::Counts;
 use crate::image;
 use crate::question::run::{Answer, Question};
 use crate::runs::trace::{trace, Look};
+use crate::site::site;
 use crate::table::{FILLER, TABLE_BRANCH};
 use crate::walk::{walk, Item};
 use second::machine::Machine;
@@ -13,6 +14,7 @@ use std::fmt;
 /// Of each case.
 const LEAST: u64 = 500;
 const NUMBERS: [&str; 5] = ["0", "6", "8", "10", "another"];
+/// By site. No listing passes 2^32, so what is below its base does.
 const LED: [&str; 8] = [
     "a record outside blocks",
     "the end",
@@ -110,7 +112,7 @@ impl Tables {
                 self.stepped(question, &items, look, number);
             }
         });
-        if let (OUTSIDE, Some([_, place, _])) = (number, answer.words()) {
+        if let (OUTSIDE, Some([_, place, _])) = (number, answer.ran()) {
             let at = items.partition_point(|item| item.place < place as usize);
             let machine = second::image::decode(&answer.lent.image);
             if let (Some(item), Some(machine)) = (items.get(at), machine) {
@@ -159,7 +161,7 @@ impl Tables {
         for (sort, _) in seen.iter().enumerate().filter(|(_, &seen)| seen) {
             self.sights.add(2 + sort);
         }
-        let led = led(items, question.listing_base, look.after.address());
+        let led = site(items, question.listing_base, look.after.address()).0 as usize;
         if led < FIRST_STRAY || number == STRAY {
             self.led[usize::from(op)].add(led);
         }
@@ -211,23 +213,6 @@ impl Tables {
             self.budgets.gaps(LEAST),
         ];
         gaps.concat()
-    }
-}
-
-/// Which of LED an address is. No listing passes 2^32, so what is before its base does.
-fn led(items: &[Item], base: u32, address: u32) -> usize {
-    let at = match address.checked_sub(base) {
-        Some(at) => i64::from(at),
-        None => return 7,
-    };
-    let index = items.partition_point(|item| item.next() <= at);
-    match items.get(index) {
-        None if items.last().map_or(0, Item::next) == at => 1,
-        None => 6,
-        Some(item) if item.record[0] == FILLER => 2 + usize::from(at > item.at),
-        Some(item) if at > item.at => 5,
-        Some(item) if item.waiting > 0 => 4,
-        Some(_) => 0,
     }
 }
 
