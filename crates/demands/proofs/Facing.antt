@@ -10,9 +10,7 @@ use Rattle.waiting.specs.Waiting.{nothing, same}
 use Rattle.waiting.proofs.Laws.{same-is, same-self}
 use Rattle.record.specs.declared.Record.{Record}
 use Rattle.layout.specs.declared.Point.{Point}
-use Rattle.layout.specs.declared.AtAddress.{AtAddress}
-use Rattle.layout.specs.declared.AtAddress.the-variants.{Stands, End, Stray}
-use Rattle.layout.specs.Layout.{Met, Onward, AtEnd, Refusal, meets, at-address, filled, standing}
+use Rattle.layout.specs.Layout.{AtAddress, Stands, End, Stray, Met, Onward, AtEnd, Refusal, meets, at-address, filled, standing}
 use Rattle.layout.proofs.Members.{On, on-found}
 use Rattle.listing.proofs.Accepted.{Accepted, not-stopped, end-waits}
 use Rattle.machine.specs.declared.Machine.{Machine}

@@ -4,12 +4,11 @@ use mathlib.Core.Bool.{Bool, true, false}
 use mathlib.Core.Path.{_≡_, refl}
 use borrow.Author.Tests.{eqb-true, eqb-false, eq-eqb}
 use lib.Dec.{eqb}
+use Rattle.layout.specs.Layout.{AtAddress, Stands, End, Stray}
 use Rattle.machine.specs.Machine.{Outcome}
 use Rattle.word.specs.Choice.{if_then_else_}
 use Rattle.record.specs.declared.Record.{Record}
 use Rattle.layout.specs.declared.Point.{Point}
-use Rattle.layout.specs.declared.AtAddress.{AtAddress}
-use Rattle.layout.specs.declared.AtAddress.the-variants.{Stands, End, Stray}
 use Rattle.run.specs.Run.{Rehearsal, State, state, Passage, Course, Over, Done, faced, attempted, round-at, round, over, led-by, continued, used-up, rounds}
 use Rattle.run.proofs.Rounds.{step-there}
 

@@ -23,8 +23,7 @@ use Rattle.judge.specs.Judge.{refusal}
 use Rattle.setup.specs.Setup.{fits}
 use Rattle.setup.proofs.Laws.{fits-as-long}
 use Rattle.layout.specs.declared.Point.{Point}
-use Rattle.layout.specs.declared.AtAddress.the-variants.{Stands, Stray}
-use Rattle.layout.specs.Layout.{free}
+use Rattle.layout.specs.Layout.{Stands, Stray, free}
 use Rattle.layout.proofs.Points.{onto, next-address}
 use Rattle.layout.proofs.Members.{On, Standing, stands-on, next-on}
 use Rattle.layout.proofs.Blocks.{unrefused, waits-after, parted-after, unparted, leaves-last, on-good}

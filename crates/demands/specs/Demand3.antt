@@ -14,10 +14,13 @@ use Rattle.flow.specs.declared.Way.the-variants.{Taken}
 use Rattle.flow.specs.Flow.{way}
 use Rattle.setup.specs.Setup.{fits}
 use Rattle.layout.specs.declared.Point.{Point}
-use Rattle.layout.specs.Layout.{start, meets, filled}
+use Rattle.layout.specs.Layout.{Stands, End, start, meets, filled, at-address}
 use Rattle.listing.specs.Check.{checked}
 use Rattle.machine.specs.Machine.{PC, held, good, condition-passes}
+use Rattle.run.specs.declared.Stored.{Stored}
+use Rattle.run.specs.declared.Stored.the-variants.{None}
 use Rattle.run.specs.Run.{Rehearsal, State, Passage, Course, run-of}
+use Rattle.run.specs.Place.{walks-place, fresh-run, resumed}
 use Rattle.demands.specs.Run.{At-record, Every}
 
 -- "For a listing that the check accepts, memory within limits and a good machine at the first record with nothing waiting"
@@ -67,3 +70,24 @@ pub record Sound (h : Rehearsal) (c : Course) : Type 0 where
 -- "for any registers, flags, memory bytes and budget"
 abbrev pub Demand-3 : Type 0
 Demand-3 = (budget : ℕ) (h : Rehearsal) (s : State) → Start h s → Sound h (run-of budget h s)
+
+-- Order 6: "or, in place of its start, a resume of a good machine whose stored place agrees and isn't "none", with those conditions
+-- waiting that the layout gives there"
+pub record Restart (h : Rehearsal) (s : State) (stored : Stored) : Type 0 where
+  pub accepted : checked (h .listing) (h .base) .number ≡ 0
+  pub memory-fits : fits (h .setup) (s .memory) ≡ true
+  pub machine-good : good (s .machine) ≡ true
+  pub sixteen : length (s .machine .registers) ≡ 16
+  pub agrees : stored ≡ walks-place h (s .machine)
+  pub placed : stored ≡ None → ⊥
+  pub waits-there : (r : Record) (p : Point) → at-address (h .listing) (h .base) (held (s .machine) PC) ≡ Stands r p
+      → s .machine .waiting ≡ p .waiting
+  pub waits-at-end : at-address (h .listing) (h .base) (held (s .machine) PC) ≡ End → s .machine .waiting ≡ nothing
+
+abbrev pub Demand-3-resumed : Type 0
+Demand-3-resumed =
+    (budget : ℕ) (h : Rehearsal) (s : State) (stored : Stored) → Restart h s stored → Sound h (resumed budget h s stored .course)
+
+-- a fresh run is the run that demand 3 speaks of
+abbrev pub Demand-3-fresh : Type 0
+Demand-3-fresh = (budget : ℕ) (h : Rehearsal) (s : State) → Start h s → Sound h (fresh-run budget h s .course)

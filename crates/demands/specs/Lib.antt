@@ -1,3 +1,4 @@
 pub mod Run
 pub mod Demand3
+pub mod Place
 pub mod Worked

@@ -11,8 +11,7 @@ use Rattle.record.specs.declared.Record.{Record}
 use Rattle.reading.specs.Reading.{part}
 use Rattle.setup.specs.Setup.{fits}
 use Rattle.layout.specs.declared.Point.{Point}
-use Rattle.layout.specs.declared.AtAddress.the-variants.{Stands, End, Stray}
-use Rattle.layout.specs.Layout.{at-address}
+use Rattle.layout.specs.Layout.{Stands, End, Stray, at-address}
 use Rattle.listing.specs.declared.Checked.{Checked}
 use Rattle.listing.specs.Check.{checked}
 use Rattle.machine.specs.declared.Machine.{Machine}

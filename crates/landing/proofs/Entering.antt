@@ -1,5 +1,5 @@
 -- A point more in the table of landing places: the addresses rise still, and it says what it said, and of the point.
-use Prim.Native.Nat.{ℕ, zero, suc, _+_, _%_, _^_, _≤_, _<_}
+use Prim.Native.Nat.{ℕ, zero, suc, _+_, _^_, _≤_, _<_}
 use mathlib.Core.Path.{_≡_, refl, sym, ap, _∙_}
 use mathlib.Core.Bool.{Bool, true, false, _&&_, and-true, and-false}
 use mathlib.Core.List.{List}
@@ -12,11 +12,11 @@ use lib.Seq.{getD-set-same, getD-set-other}
 use Rattle.word.specs.Choice.{if_then_else_}
 use Rattle.word.proofs.Cases.{cases, le-or-gt}
 use Rattle.layout.specs.declared.Point.{Point}
-use Rattle.landing.specs.Code.{Table, table, entered, Placed, Found, Nowhere, or-else, among, looked-up, Below, Rising}
+use Rattle.landing.specs.Code.{Table, table, entered, Placed, Found, Missing, or-else, among, looked-up, Below, Rising}
 
-pub or-nowhere : (x : Placed) → or-else x Nowhere ≡ x
-or-nowhere (Found place) = refl
-or-nowhere Nowhere = refl
+pub or-missing : (x : Placed) → or-else x Missing ≡ x
+or-missing (Found place) = refl
+or-missing Missing = refl
 
 -- ---- one address more, above all others
 module _ (addresses : List ℕ) (count new : ℕ) (room : count < length addresses) where
@@ -51,7 +51,7 @@ pub record One-more (lands : Bool) (p : Point) (t u : Table) : Type 0 where
   pub rising : Rising (u .addresses) (u .count)
   pub below : (bound : ℕ) → p .address .0 < bound → Below (u .addresses) (u .count) bound
   pub says : (address : ℕ)
-      → looked-up u address ≡ or-else (looked-up t address) (if eqb (p .address .0) address && lands then Found (p .place) else Nowhere)
+      → looked-up u address ≡ or-else (looked-up t address) (if eqb (p .address .0) address && lands then Found (p .place) else Missing)
 
 module _ (p : Point) (t : Table) (room : Room t p) (rising : Rising (t .addresses) (t .count)) (below : Below (t .addresses) (t .count) (p .address .0)) where
   grown : Table
@@ -69,11 +69,11 @@ module _ (p : Point) (t : Table) (room : Room t p) (rising : Rising (t .addresse
       )
 
   grown-says : (address : ℕ)
-      → looked-up grown address ≡ or-else (looked-up t address) (if eqb (p .address .0) address && true then Found (p .place) else Nowhere)
+      → looked-up grown address ≡ or-else (looked-up t address) (if eqb (p .address .0) address && true then Found (p .place) else Missing)
   unfolding among grown
   grown-says address = let e : t .count + 1 ≡ suc (t .count) = omega arith in ap (λ (k : ℕ). among k grown address) e ∙ last
     where
-      last : among (suc (t .count)) grown address ≡ or-else (looked-up t address) (if eqb (p .address .0) address && true then Found (p .place) else Nowhere)
+      last : among (suc (t .count)) grown address ≡ or-else (looked-up t address) (if eqb (p .address .0) address && true then Found (p .place) else Missing)
       last =
           rw (
             among-before (t .count) address (omega arith),
@@ -101,5 +101,5 @@ module _ (p : Point) (t : Table) (room : Room t p) (rising : Rising (t .addresse
         count = omega arith;
         rising = rising;
         below = λ bound h i l. omega (arith, below i l);
-        says = λ address. rw (and-false (eqb (p .address .0) address)) (sym (or-nowhere (looked-up t address)));
+        says = λ address. rw (and-false (eqb (p .address .0) address)) (sym (or-missing (looked-up t address)));
       }

@@ -1,6 +1,6 @@
 -- The search by halves: how it parts the entries of a table, and what the table says of an address where the parts meet.
 use Prim.Native.Nat.{ℕ, zero, suc, _+_, _-_, _/_, _≤_, _<_, min}
-use mathlib.Core.Path.{_≡_, refl, sym, ap, _∙_}
+use mathlib.Core.Path.{_≡_, refl, sym, _∙_}
 use mathlib.Core.Bool.{Bool, true, false}
 use mathlib.Core.List.{List}
 use native.Mathlib.Omega.{arith}
@@ -12,7 +12,7 @@ use Rattle.word.proofs.Cases.{cases, le-or-gt}
 use Rattle.landing.specs.declared.Landing.{Landing}
 use Rattle.landing.specs.declared.Last.{Last}
 use Rattle.landing.specs.declared.Last.the-variants.{At, None}
-use Rattle.landing.specs.Code.{Table, halves, last-of, last-to, Found, Nowhere, among, looked-up, there, is-listed, Rising, Sorted}
+use Rattle.landing.specs.Code.{Table, halves, last-of, last-to, Found, Missing, among, looked-up, is-listed, Rising, Sorted}
 
 -- the middle of what is left
 abbrev pub middle-of : ℕ → ℕ → ℕ
@@ -143,7 +143,7 @@ module _ (t : Table) (address : ℕ) where
   abbrev Missed : ℕ → Type 0
   Missed k = (i : ℕ) → i < k → getD (t .addresses) i 0 ≡ address → ⊥
 
-  among-none : (k : ℕ) → Missed k → among k t address ≡ Nowhere
+  among-none : (k : ℕ) → Missed k → among k t address ≡ Missing
   unfolding among
   among-none zero missed = refl
   among-none (suc k) missed =

@@ -22,19 +22,19 @@ use Rattle.layout.proofs.Members.{On, start-on, on-within, next-on}
 use Rattle.landing.specs.declared.Landing.{Landing}
 use Rattle.landing.specs.declared.Last.the-variants.{At}
 use Rattle.landing.specs.Landing.{lands-here, lands-at}
-use Rattle.landing.specs.Code.{Table, table, lands-seen, entered, all-entered, tabled, last-to, Placed, Found, Nowhere, or-else, among, looked-up, Below, Rising, landing-place, Tells}
+use Rattle.landing.specs.Code.{Table, table, lands-seen, entered, all-entered, tabled, last-to, Placed, Found, Missing, or-else, among, looked-up, Below, Rising, landing-place, Tells}
 use Rattle.landing.proofs.Halves.{last-entry, entry-found}
-use Rattle.landing.proofs.Entering.{Room, or-nowhere, One-more, one-more}
+use Rattle.landing.proofs.Entering.{Room, or-missing, One-more, one-more}
 
 pub seen-lands : (listing : List ℕ) (p : Point) (t : Seen) → t ≡ seen (meets listing p) → lands-seen p t ≡ lands-here listing p
 unfolding lands-here lands-seen
 seen-lands listing p t e = rw (e, seen-as (meets listing p))
 
 or-then : (x : Placed) (t : Bool) (place : Place) (y : Placed)
-    → or-else (or-else x (if t then Found place else Nowhere)) y ≡ or-else x (if t then Found place else y)
+    → or-else (or-else x (if t then Found place else Missing)) y ≡ or-else x (if t then Found place else y)
 or-then (Found here) t place y = refl
-or-then Nowhere true place y = refl
-or-then Nowhere false place y = refl
+or-then Missing true place y = refl
+or-then Missing false place y = refl
 
 record Listed (listing : List ℕ) (base : ℕ) (t : Table) (p : Point) (left : ℕ) : Type 0 where
   on : On listing base p
@@ -82,7 +82,7 @@ module _ (listing : List ℕ) (base : ℕ) where
     unfolding landing-place
     listed-none h = record {
       sorted = record { fits = omega (arith, listed-room .addresses); paired = omega (arith, listed-room .places); rising = so-far .rising };
-      all = λ address. sym (or-nowhere (looked-up t address)) ∙ (rw (walk-none listing p left h) at (so-far .all address));
+      all = λ address. sym (or-missing (looked-up t address)) ∙ (rw (walk-none listing p left h) at (so-far .all address));
     }
 
     listed-last : walk left listing p ≡ p ∷ [] → Tells (entered here p t) listing base

@@ -67,24 +67,24 @@ last-to t address =
 -- the place of a landing place, if there is one
 pub data Placed : Type 0 where
   Found : Place → Placed
-  Nowhere : Placed
+  Missing : Placed
 
 abbrev pub or-else : Placed → Placed → Placed
 or-else (Found place) other = Found place
-or-else Nowhere other = other
+or-else Missing other = other
 
 -- the place beside an address, among so many entries
 unfoldable pub among : ℕ → Table → ℕ → Placed
-among zero t address = Nowhere
+among zero t address = Missing
 among (suc k) t address =
-    or-else (among k t address) (if eqb (getD (t .addresses) k 0) address then Found (record { 0 = getD (t .places) k 0 }) else Nowhere)
+    or-else (among k t address) (if eqb (getD (t .addresses) k 0) address then Found (record { 0 = getD (t .places) k 0 }) else Missing)
 
 abbrev pub looked-up : Table → ℕ → Placed
 looked-up t address = among (t .count) t address
 
 abbrev pub there : Placed → Bool
 there (Found place) = true
-there Nowhere = false
+there Missing = false
 
 abbrev pub is-listed : Table → ℕ → Bool
 is-listed t address = there (looked-up t address)
@@ -103,7 +103,7 @@ pub record Sorted (t : Table) : Type 0 where
 
 -- the place of the landing place at an address
 unfoldable pub landing-place : List ℕ → ℕ → List Point → Placed
-landing-place listing address [] = Nowhere
+landing-place listing address [] = Missing
 landing-place listing address (p ∷ ps) = if lands-at listing address p then Found (p .place) else landing-place listing address ps
 
 -- the landing places of a listing, and no other

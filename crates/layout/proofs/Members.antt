@@ -12,13 +12,8 @@ use Rattle.word.proofs.Cases.{cases}
 use Rattle.record.specs.declared.Record.{Record}
 use Rattle.flow.specs.Flow.{way, fills}
 use Rattle.layout.specs.declared.Point.{Point}
-use Rattle.layout.specs.declared.Sought.{Sought}
-use Rattle.layout.specs.declared.Sought.the-variants.{At, Nowhere}
-use Rattle.layout.specs.declared.AtAddress.{AtAddress}
-use Rattle.layout.specs.declared.AtAddress.the-variants.{Stands, End, Stray}
-use Rattle.layout.specs.Layout.{Met, Onward, AtEnd, Refusal, start, meets, followed, walk, layout, sought, standing, standing-at, at-address}
-use Rattle.layout.proofs.Points.{Within, within-start, within-next, onto, rises, walk-from, walk-more, walk-end, walk-refused}
-use Rattle.layout.proofs.Turns.{none-below}
+use Rattle.layout.specs.Layout.{Sought, AtAddress, At, Nowhere, Stands, End, Stray, Met, Onward, AtEnd, Refusal, start, meets, followed, walk, layout, sought, standing, standing-at, at-address}
+use Rattle.layout.proofs.Points.{Within, within-start, within-next, rises, walk-from, walk-more, walk-end, walk-refused}
 
 -- a point of the layout
 abbrev pub On : List ℕ → ℕ → Point → Type 0
@@ -36,6 +31,19 @@ sought-member address (q ∷ ps) p e = go (λ f. sought-member address ps p f) (
         let f : q ≡ p = cc in
         (List·Memᴰ·head (sym f), ap (λ (x : Point). x .address .0) (sym f) ∙ eqb-true (q .address .0) address t)
     go rest false t e = let m = rest e in (List·Memᴰ·tail (m .0), m .1)
+
+-- addresses rise, so none of the points from one on has a lower address
+none-below : (listing : List ℕ) (address count : ℕ) (p : Point) → address < p .address .0 → sought address (walk count listing p) ≡ Nowhere
+unfolding walk sought
+none-below listing address zero p h = refl
+none-below listing address (suc count) p h =
+    rw (ne-eqb (p .address .0) address (λ e. omega arith)) (go (λ q l. none-below listing address count q l) (meets listing p) refl)
+  where
+    go : ((q : Point) → address < q .address .0 → sought address (walk count listing q) ≡ Nowhere)
+        → (t : Met) → meets listing p ≡ t → sought address (followed t (walk count listing)) ≡ Nowhere
+    go rest (Onward r q) e = rest q (omega (arith, rises listing p r q e))
+    go rest AtEnd e = refl
+    go rest (Refusal number) e = refl
 
 -- ---- the walk from a point
 module _ (listing : List ℕ) (base : ℕ) where

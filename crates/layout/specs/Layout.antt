@@ -15,10 +15,6 @@ use Rattle.reading.specs.declared.ReadAt.{ReadAt}
 use Rattle.reading.specs.declared.ReadAt.the-variants.{Found, Nothing}
 use Rattle.judge.specs.Judge.{refusal}
 use Rattle.layout.specs.declared.Point.{Point}
-use Rattle.layout.specs.declared.Sought.{Sought}
-use Rattle.layout.specs.declared.Sought.the-variants.{At, Nowhere}
-use Rattle.layout.specs.declared.AtAddress.{AtAddress}
-use Rattle.layout.specs.declared.AtAddress.the-variants.{Stands, End, Stray}
 
 -- what stands at a point of the layout: a record, and the point after it; the end; or what 2, 3 or 4 refuses there
 pub data Met : Type 0 where
@@ -73,6 +69,17 @@ walk (suc count) listing p = p ∷ followed (meets listing p) (walk count listin
 unfoldable pub layout : List ℕ → ℕ → List Point
 layout listing base = walk (length listing + 1) listing (start base)
 
+-- a point that was looked for
+pub data Sought : Type 0 where
+  At : Point → Sought
+  Nowhere : Sought
+
+-- what stands at an address: a record, and its point; the end; or neither
+pub data AtAddress : Type 0 where
+  Stands : Record → Point → AtAddress
+  End : AtAddress
+  Stray : AtAddress
+
 -- the first point at an address
 unfoldable pub sought : ℕ → List Point → Sought
 sought address [] = Nowhere
@@ -95,6 +102,6 @@ unfoldable pub standing-at : List ℕ → Sought → AtAddress
 standing-at listing (At p) = standing (meets listing p) p
 standing-at listing Nowhere = Stray
 
--- the record at an address, with its place and waiting conditions; or the end; or neither
+-- the walk for an address: the record there, with its place and waiting conditions; or the end; or neither
 unfoldable pub at-address : List ℕ → ℕ → ℕ → AtAddress
 at-address listing base address = standing-at listing (sought address (layout listing base))

@@ -1,7 +1,7 @@
-// The layout of a listing: the walk along its records, and the search for an address.
+// The layout of a listing: the walk along its records.
 
 ghost use mathlib.Core.Path.{_≡_};
-ghost use Rattle.layout.specs.Layout.{start, free, refusal-at, judged-at, meets, layout, sought, standing, standing-at, at-address};
+ghost use Rattle.layout.specs.Layout.{start, free, refusal-at, judged-at, meets};
 ghost use Rattle.layout.specs.Code.{in-64-bits, passed, seen, seen-filled};
 ghost use Rattle.reading.specs.declared.ReadAt.the-variants.{Found};
 use flow::Traits;
@@ -30,19 +30,6 @@ pub enum Seen {
     Ends,
     // the number that the record is refused with
     Stops(u32),
-}
-
-pub enum Sought {
-    At(Point),
-    Nowhere,
-}
-
-// What stands at an address.
-pub enum AtAddress {
-    // a record, and its point
-    Stands(Record, Point),
-    End,
-    Stray,
 }
 
 pub fn start_of(base: u32) -> Point
@@ -120,65 +107,4 @@ pub fn is_filled(t: Seen) -> bool
         Seen::Ends => false,
         Seen::Stops(_) => false,
     }
-}
-
-pub fn found(listing: &[u8], base: u32, address: u32) -> AtAddress
-    ensures { λ t. ⌜ t ≡ at-address (now (listing .entry)) base address ⌝ }
-{
-    match seek(listing, base, address) {
-        Sought::At(point) => hold(listing, point),
-        Sought::Nowhere => AtAddress::Stray,
-    }
-}
-
-fn seek(listing: &[u8], base: u32, address: u32) -> Sought
-    ensures { λ t. ⌜ t ≡ sought address (layout (now (listing .entry)) base) ⌝ }
-{
-    let mut point = start_of(base);
-    let mut left = listing.len() + 1;
-    while 0 < left {
-        let here = point.address.0 == address as u64;
-        if here {
-            return Sought::At(point);
-        }
-        // addresses rise: past this one it stands nowhere
-        let past = (address as u64) < point.address.0;
-        if past {
-            return Sought::Nowhere;
-        }
-        match see(listing, point) {
-            Seen::Goes(_, next) => {
-                point = next;
-                left = left - 1;
-            }
-            Seen::Ends => return Sought::Nowhere,
-            Seen::Stops(_) => return Sought::Nowhere,
-        }
-    }
-    Sought::Nowhere
-}
-
-fn hold(listing: &[u8], point: Point) -> AtAddress
-    ensures { λ t. ⌜ t ≡ standing (meets (now (listing .entry)) point) point ⌝ }
-{
-    let at = point.place.0;
-    let at_end = at == listing.len();
-    if at_end {
-        return AtAddress::End;
-    }
-    let ReadAt::Found(r, place) = reader::read_next(listing, Place(at)) else {
-        return AtAddress::Stray;
-    };
-    hold_record(r, place, point)
-}
-
-fn hold_record(r: Record, place: Place, point: Point) -> AtAddress
-    ensures { λ t. ⌜ t ≡ standing (judged-at (Found r place) point) point ⌝ }
-{
-    let number = refusal_at(r, point);
-    let stands = (number == 0) & !flow::fills_of(flow::way_of(r));
-    if stands {
-        return AtAddress::Stands(r, point);
-    }
-    AtAddress::Stray
 }

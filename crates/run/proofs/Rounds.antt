@@ -1,7 +1,7 @@
 -- What the code keeps of a round is enough to go on with: the steps so far are only counted, and where the machine is comes with it.
-use Prim.Native.Nat.{ℕ, zero, suc, _+_, _-_, _≤_, _<_}
+use Prim.Native.Nat.{ℕ, suc, _+_, _-_, _≤_, _<_}
 use mathlib.Core.Path.{_≡_, refl, sym, ap, _∙_}
-use mathlib.Core.Bool.{Bool, true, false, false≢true, not, _&&_, _||_}
+use mathlib.Core.Bool.{Bool, true, false, false≢true, not, _&&_}
 use mathlib.Core.List.{List}
 use native.Mathlib.Omega.{arith}
 use borrow.Author.Tests.{eqb-true, eqb-false, eq-eqb, ne-eqb, lt-ltb}
@@ -15,9 +15,7 @@ use Rattle.reading.specs.Reading.{part}
 use Rattle.record.specs.declared.Record.{Record}
 use Rattle.setup.specs.Setup.{fits}
 use Rattle.layout.specs.declared.Point.{Point}
-use Rattle.layout.specs.declared.AtAddress.{AtAddress}
-use Rattle.layout.specs.declared.AtAddress.the-variants.{Stands, End, Stray}
-use Rattle.layout.specs.Layout.{at-address}
+use Rattle.layout.specs.Layout.{AtAddress, Stands, End, Stray, at-address}
 use Rattle.layout.proofs.Points.{onto}
 use Rattle.layout.proofs.Members.{stands-on}
 use Rattle.listing.specs.Check.{checked}
@@ -25,15 +23,16 @@ use Rattle.machine.specs.Machine.{PC, held, good, Outcome}
 use Rattle.machine.specs.declared.Machine.{Machine}
 use Rattle.machine.specs.Step.{stepped}
 use Rattle.paper.proofs.Demands.{refused-as-given}
+use Rattle.run.specs.declared.Sight.{Sight}
 use Rattle.run.specs.declared.Sight.the-variants.{AtRecord, AtEnd, AtNone}
 use Rattle.run.specs.declared.Stored.{Stored}
-use Rattle.run.specs.declared.Stored.the-variants.{In, None}
+use Rattle.run.specs.declared.Stored.the-variants.{None}
 use Rattle.run.specs.declared.seat.Seat.{Seat}
 use Rattle.run.specs.declared.Taken.{Taken}
 use Rattle.run.specs.declared.Halted.{Halted}
 use Rattle.run.specs.Run.{Rehearsal, State, state, Course, Round, Over, Done, agreeing, faced, attempted, round-at, round, over, continued, used-up, rounds, run-of, Ending, ending, outcome}
 use Rattle.run.specs.Place.{place-in, walks-place, same-place, begins, journey, fresh-run, resumed, Halting, halting, halt}
-use Rattle.run.specs.Code.{due-at, seat, seat-at, seat-of, Seated, sight, seen-from, facing, used-up-at, Handed, handed, round-handed, arrived, set-out, proceeded}
+use Rattle.run.specs.Code.{due-at, seat, seat-at, seat-of, Seated, sight, seen-from, facing, used-up-at, Handed, handed, round-handed, arrived, proceeded}
 
 -- ---- what is seen
 pub sight-used : (t : AtAddress) → used-up-at (sight t) ≡ used-up t
@@ -51,7 +50,7 @@ module _ (listing : List ℕ) (base address : ℕ) (waiting : Waiting) where
   unfolding facing seat-at seen-from place-in agreeing sight
   facing-there = go there refl
     where
-      never : (b : Bool) → _≡_ {A = Rattle.run.specs.declared.Sight.Sight} (if b then AtNone else AtNone) AtNone
+      never : (b : Bool) → _≡_ {A = Sight} (if b then AtNone else AtNone) AtNone
       never true = refl
       never false = refl
 

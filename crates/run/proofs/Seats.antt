@@ -1,29 +1,28 @@
 -- Where a machine is: what the code finds at an address is the seat that the layout gives there.
 use Prim.Native.Nat.{ℕ, _≤_, _<_}
-use mathlib.Core.Bool.{Bool, true, false, not, _&&_}
+use mathlib.Core.Bool.{Bool, true, false, not}
 use mathlib.Core.List.{List}
 use mathlib.Core.Path.{_≡_, refl, sym, ap, _∙_}
 use native.Mathlib.Omega.{arith}
-use borrow.Author.Tests.{eqb-true, eq-eqb, ne-eqb, not-true}
-use lib.Dec.{eqb}
+use borrow.Author.Tests.{eqb-true, not-true}
 use lib.ListN.{length}
 use Rattle.word.specs.Choice.{if_then_else_}
 use Rattle.word.proofs.Cases.{both-true}
 use Rattle.waiting.specs.declared.Waiting.{Waiting}
-use Rattle.waiting.specs.Waiting.{nothing, waiting-count, same}
+use Rattle.waiting.specs.Waiting.{nothing, waiting-count}
 use Rattle.record.specs.declared.Record.{Record}
 use Rattle.flow.specs.declared.Way.{Way}
 use Rattle.flow.specs.Flow.{way, fills}
 use Rattle.reading.specs.declared.Place.{Place}
+use Rattle.layout.specs.declared.Address.{Address}
 use Rattle.layout.specs.declared.Point.{Point}
-use Rattle.layout.specs.declared.AtAddress.{AtAddress}
-use Rattle.layout.specs.declared.AtAddress.the-variants.{Stands, End, Stray}
-use Rattle.layout.specs.Layout.{Met, Onward, AtEnd, Refusal, start, free, meets, filled, standing, at-address}
-use Rattle.layout.proofs.Points.{onto, end-place, next-address, rises}
+use Rattle.layout.specs.Layout.{Stands, Stray, Met, Onward, AtEnd, Refusal, start, free, meets, filled, standing, at-address}
+use Rattle.layout.proofs.Points.{end-place}
 use Rattle.layout.proofs.Turns.{Passed}
 use Rattle.layout.proofs.Members.{On, start-on, on-within, next-on, on-found, on-gap, below-start, Standing, stands-on}
 use Rattle.layout.proofs.Blocks.{nothing-waits, unparted, unparted-at, parted-aside}
 use Rattle.landing.specs.declared.Landing.{Landing}
+use Rattle.landing.specs.declared.Last.{Last}
 use Rattle.landing.specs.declared.Last.the-variants.{At}
 use Rattle.landing.specs.Landing.{lands-here}
 use Rattle.landing.specs.Code.{Table, last-to, Tells}
@@ -80,7 +79,7 @@ module _ (listing : List ℕ) (base : ℕ) (ok : Accepted listing base) where
       p = so-far .like .point
 
       same-address : from .address .0 ≡ p .address .0
-      same-address = ap (λ (x : Rattle.layout.specs.declared.Address.Address). x .0) (so-far .like .address)
+      same-address = ap (λ (x : Address). x .0) (so-far .like .address)
 
       pub ahead-on : from .address .0 < address → (w : Way) (next : Point) → Passed listing from w next → Ahead listing base address next
       ahead-on low w next g =
@@ -109,9 +108,10 @@ module _ (listing : List ℕ) (base : ℕ) (ok : Accepted listing base) where
       ahead-within = rw (so-far .like .place) (on-within listing base p (so-far .like .on) .inside)
 
   -- ---- from a landing place
-  module _ (t : Table) (tells : Tells t listing base) (address : ℕ) (l : Landing) (e : last-to t address ≡ At l) where
+  module _ (t : Table) (tells : Tells t listing base) (address : ℕ) (l : Landing) (found : Last)
+      (is : found ≡ last-to t address) (e : found ≡ At l) where
     abbrev lands : Lands listing base l × (l .address ≤ address)
-    lands = last-lands listing base t tells address l e
+    lands = last-lands listing base t tells address l (sym is ∙ e)
 
     abbrev landed : Point
     landed = lands .0 .point

@@ -11,9 +11,7 @@ use Rattle.waiting.specs.Waiting.{nothing, same}
 use Rattle.record.specs.declared.Record.{Record}
 use Rattle.setup.specs.Setup.{fits}
 use Rattle.layout.specs.declared.Point.{Point}
-use Rattle.layout.specs.declared.AtAddress.{AtAddress}
-use Rattle.layout.specs.declared.AtAddress.the-variants.{Stands, End, Stray}
-use Rattle.layout.specs.Layout.{Met, meets, layout, filled, at-address}
+use Rattle.layout.specs.Layout.{AtAddress, Stands, End, Stray, Met, meets, layout, filled, at-address}
 use Rattle.landing.specs.Code.{Table, Tells}
 use Rattle.listing.specs.Check.{checked}
 use Rattle.reading.specs.declared.Place.{Place}

@@ -7,9 +7,7 @@ use lib.Dec.{eqb}
 use lib.ListN.{length}
 use Rattle.word.specs.Choice.{if_then_else_}
 use Rattle.setup.specs.Setup.{fits}
-use Rattle.layout.specs.declared.AtAddress.{AtAddress}
-use Rattle.layout.specs.declared.AtAddress.the-variants.{Stands, End, Stray}
-use Rattle.layout.specs.Layout.{at-address}
+use Rattle.layout.specs.Layout.{AtAddress, Stands, End, Stray, at-address}
 use Rattle.listing.specs.Check.{checked}
 use Rattle.machine.specs.declared.Machine.{Machine}
 use Rattle.machine.specs.Machine.{PC, held, good}

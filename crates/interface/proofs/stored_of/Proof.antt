@@ -1,4 +1,3 @@
-use borrow.Author.Needs.{needs}
 use borrow.Author.Tests.{eq-eqb, ne-eqb}
 use Rattle.interface.specs.Interface.{numbered-place}
 use Rattle.interface.proofs.stored_of.Statement.{statement}

@@ -1,5 +1,4 @@
 use Prim.Native.Nat.{_<_}
-use mathlib.Core.Path.{_≡_}
 use mathlib.Core.Bool.{_&&_}
 use native.Mathlib.Omega.{arith}
 use borrow.Author.Needs.{needs}
@@ -44,17 +43,4 @@ unfolding entered
 returns-2 c = rw (c .if1 .left)
 
 pub enter-spec : {M : Type 1} → statement M
-enter-spec =
-    tie.close
-    (tie.spec
-    (λ c. search needs)
-    mul-addresses
-    slice-write-addresses
-    (λ c. search needs)
-    mul-places
-    slice-write-places
-    add-result
-    (λ c. search needs)
-    (λ c. search needs)
-    returns
-    returns-2)
+enter-spec = tie.close (tie.spec (λ c. search needs) mul-addresses slice-write-addresses (λ c. search needs) mul-places slice-write-places add-result (λ c. search needs) (λ c. search needs) returns returns-2)

@@ -1,9 +1,9 @@
 use Prim.Native.Nat.{_-_, _≤_, min}
-use mathlib.Core.Path.{_≡_, sym, ap, _∙_}
+use mathlib.Core.Path.{_≡_, sym}
 use native.Mathlib.Omega.{arith}
 use borrow.Author.Needs.{needs}
 use lib.ListN.{length}
-use Rattle.landing.specs.Code.{table, halves, last-of, last-to}
+use Rattle.landing.specs.Code.{last-to}
 use Rattle.landing.proofs.Halves.{halves-within, last-none, last-before}
 use Rattle.landing.proofs.last_to.Statement.{statement}
 use Rattle.landing.proofs.last_to.Tie as tie
@@ -50,18 +50,4 @@ returns-2 c =
     rw (← bound e, ← e .entries-to .ensures) (sym (last-before (e .entries-to .result) _ (omega arith)))
 
 pub last-to-spec : {M : Type 1} → statement M
-last-to-spec =
-    tie.close
-    (tie.spec
-    (λ c κs. search needs)
-    (λ c κs. search needs)
-    (λ c κs. search needs)
-    returns
-    (λ c. search needs)
-    mul-t8
-    shared-slice-read-t12
-    (λ c. search needs)
-    mul-t13
-    shared-slice-read-t15
-    cast-t16
-    returns-2)
+last-to-spec = tie.close (tie.spec (λ c κs. search needs) (λ c κs. search needs) (λ c κs. search needs) returns (λ c. search needs) mul-t8 shared-slice-read-t12 (λ c. search needs) mul-t13 shared-slice-read-t15 cast-t16 returns-2)

@@ -1,8 +1,6 @@
 use mathlib.Core.Bool.{true, false, _||_}
-use mathlib.Core.Path.{_≡_, sym, ap, _∙_}
-use native.Mathlib.Omega.{arith}
+use mathlib.Core.Path.{_≡_}
 use borrow.Author.Needs.{needs}
-use lib.ListN.{length}
 use Rattle.landing.specs.Code.{table}
 use Rattle.listing.proofs.Accepted.{parts}
 use Rattle.listing.proofs.Branches.{table-tells}

@@ -1,11 +1,11 @@
-use Prim.Native.Nat.{ℕ, _-_, _≤_}
-use mathlib.Core.Path.{_≡_, refl, sym, ap, _∙_}
+use Prim.Native.Nat.{_-_, _≤_}
+use mathlib.Core.Path.{_≡_, refl, ap, _∙_}
 use native.Mathlib.Omega.{arith}
 use borrow.Author.Needs.{needs}
 use lib.ListN.{length}
 use Rattle.machine.specs.Machine.{PC, held}
 use Rattle.run.specs.declared.seat.Seat.{Seat}
-use Rattle.run.specs.Run.{rehearsal, state, faced, rounds}
+use Rattle.run.specs.Run.{rehearsal, state, faced, round, rounds}
 use Rattle.run.specs.Place.{halt}
 use Rattle.run.specs.Code.{seat-at, facing, used-up-at, arrived}
 use Rattle.run.proofs.Rounds.{Onward, facing-there, taken-seat, counted-none, over-here, on-from-here, used-up-here}
@@ -40,11 +40,14 @@ returns c =
 loop-again : tie.Need-loop-again Inv-loop μ-loop
 loop-again c =
     let g = c .before .before .before .before .before in
-    let l = g .before .before .before .loop in (
+    let l = g .before .before .before .loop in
+    let a = g .before .before .before .before .before .before .before .before .args in
+    let h = rehearsal (a .listing .now) (a .base) (a .setup) in
+    let s = state (l .m) (l .memory) in (
       omega arith,
       search needs,
-      taken-seat _ (state (l .m) (l .memory)) _ _ _ (g .take .ensures),
-      on-from-here _ _ (l .count) (state (l .m) (l .memory)) _ (l .inv .3) _ _ (g .take .ensures) (g .before .before .loop-test .taken) (c .if1 .left),
+      taken-seat h s _ _ (round h s) (g .take .ensures),
+      on-from-here h _ (l .count) (state (l .m) (l .memory)) _ (l .inv .3) _ _ (g .take .ensures) (g .before .before .loop-test .taken) (c .if1 .left),
     )
 
 returns-2 : tie.Need-returns-2 Inv-loop μ-loop

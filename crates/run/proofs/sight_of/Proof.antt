@@ -1,5 +1,4 @@
 use borrow.Author.Needs.{needs}
-use borrow.Author.Tests.{eq-eqb, ne-eqb}
 use Rattle.run.specs.Code.{seen-from}
 use Rattle.run.proofs.sight_of.Statement.{statement}
 use Rattle.run.proofs.sight_of.Tie as tie

@@ -7,7 +7,7 @@ use Rattle.machine.specs.Machine.{PC, held, Outcome}
 use Rattle.machine.specs.Step.{stepped}
 use Rattle.run.specs.declared.seat.Seat.{Seat}
 use Rattle.run.specs.Run.{rehearsal, state, faced, round}
-use Rattle.run.specs.Code.{seat-at, sight, facing, round-handed}
+use Rattle.run.specs.Code.{sight, facing, round-handed}
 use Rattle.run.proofs.Rounds.{facing-there, faced-seat, step-kept, round-record, round-end, round-stray}
 use Rattle.run.proofs.take.Statement.{statement}
 use Rattle.run.proofs.take.Tie as tie

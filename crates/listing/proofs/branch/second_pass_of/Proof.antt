@@ -1,4 +1,3 @@
-use native.Mathlib.Omega.{arith}
 use borrow.Author.Needs.{needs}
 use Rattle.listing.proofs.Branches.{table-tells}
 use Rattle.listing.proofs.branch.second_pass_of.Statement.{statement}

@@ -1,5 +1,4 @@
-use mathlib.Core.Path.{_≡_, sym, _∙_}
-use native.Mathlib.Omega.{arith}
+use mathlib.Core.Path.{_∙_}
 use borrow.Author.Needs.{needs}
 use borrow.Author.Tests.{eqb-true}
 use Rattle.run.proofs.Seats.{ahead-start, ahead-landing, seat-landing}
@@ -14,7 +13,7 @@ returns c =
     let l = f .found .given .0 .0 in
     c .seat-at .ensures
     ∙ rw (c .before .before .before .nothing .ensures)
-    (seat-landing (b .args .listing .now) (b .args .base) (b .pre .0) _ (b .pre .1) (b .args .address) l (sym (k .last-to .ensures) ∙ f .found .given .1) (eqb-true (l .address) (b .args .address) (c .before .if1 .taken)))
+    (seat-landing (b .args .listing .now) (b .args .base) (b .pre .0) _ (b .pre .1) (b .args .address) l _ (k .last-to .ensures) (f .found .given .1) (eqb-true (l .address) (b .args .address) (c .before .if1 .taken)))
 
 seek-requires : tie.Need-seek-requires
 seek-requires c κs =
@@ -23,7 +22,7 @@ seek-requires c κs =
     let k = f .before .before in (
       b .pre .0,
       rw (c .before .before .nothing .ensures)
-          (ahead-landing (b .args .listing .now) (b .args .base) (b .pre .0) _ (b .pre .1) (b .args .address) _ (sym (k .last-to .ensures) ∙ f .found .given .1)),
+          (ahead-landing (b .args .listing .now) (b .args .base) (b .pre .0) _ (b .pre .1) (b .args .address) _ _ (k .last-to .ensures) (f .found .given .1)),
     )
 
 seek-requires-2 : tie.Need-seek-requires-2
