@@ -10,7 +10,7 @@ ghost use Rattle.word.specs.Choice.{if_then_else_};
 ghost use Rattle.image.specs.Image.{image-of};
 ghost use Rattle.listing.specs.Check.{checked};
 ghost use Rattle.run.specs.Run.{rehearsal};
-ghost use Rattle.rehearsal.specs.Program.{rehearsed};
+ghost use Rattle.rehearsal.specs.Program.{program-budget, rehearsed};
 ghost use Rattle.interface.specs.Interface.{left, image-stepped, run-left, with-answer, image-run, place-number, numbered-place, with-place, image-begun, image-resumed, text-left, text-laid, pair, measured, way-number, way-read, reported};
 use flow::Way;
 use machine::Machine;
@@ -148,7 +148,7 @@ pub extern "C" fn simbhoket_resume(
 
 #[no_mangle]
 pub extern "C" fn simbhoket_rehearse(listing: &[u8], room: &mut [u8]) -> usize
-    ensures { λ n. ⌜ text-left n (now (room .exit)) ≡ text-laid (rehearsed (now (listing .entry)) (now (room .entry))) ⌝ }
+    ensures { λ n. ⌜ text-left n (now (room .exit)) ≡ text-laid (rehearsed program-budget (now (listing .entry)) (now (room .entry))) ⌝ }
 {
     let told = rehearsal::rehearse(listing, room);
     told.length

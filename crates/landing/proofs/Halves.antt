@@ -12,7 +12,7 @@ use Rattle.word.proofs.Cases.{cases, le-or-gt}
 use Rattle.landing.specs.declared.Landing.{Landing}
 use Rattle.landing.specs.declared.Last.{Last}
 use Rattle.landing.specs.declared.Last.the-variants.{At, None}
-use Rattle.landing.specs.Code.{Table, halves, last-of, last-to, Found, Missing, among, looked-up, is-listed, Rising, Sorted}
+use Rattle.landing.specs.Code.{Table, by-halves, last-of, last-to, Found, Missing, among, looked-up, is-listed, Rising, Sorted}
 
 -- the middle of what is left
 abbrev pub middle-of : ℕ → ℕ → ℕ
@@ -24,23 +24,23 @@ pub record Halving (addresses : List ℕ) (count address low high whole : ℕ) :
   pub within : high ≤ count
   pub more : ℕ
   pub enough : high - low ≤ more
-  pub same : halves more addresses address low high ≡ whole
+  pub same : by-halves more addresses address low high ≡ whole
 
 module _ (addresses : List ℕ) (count address low high whole : ℕ) (so-far : Halving addresses count address low high whole) where
   pub halved : high ≤ low → low ≡ whole
-  unfolding halves
+  unfolding by-halves
   halved h = go (so-far .more) (so-far .same)
     where
-      go : (more : ℕ) → halves more addresses address low high ≡ whole → low ≡ whole
+      go : (more : ℕ) → by-halves more addresses address low high ≡ whole → low ≡ whole
       go zero e = e
       go (suc more) e = rw (le-ltb low high h) at e
 
   module _ (still : low < high) where
     pub halved-up : getD addresses (middle-of low high) 0 ≤ address → Halving addresses count address (middle-of low high + 1) high whole
-    unfolding halves
+    unfolding by-halves
     halved-up h = go (so-far .more) (so-far .enough) (so-far .same)
       where
-        go : (more : ℕ) → high - low ≤ more → halves more addresses address low high ≡ whole → Halving addresses count address (middle-of low high + 1) high whole
+        go : (more : ℕ) → high - low ≤ more → by-halves more addresses address low high ≡ whole → Halving addresses count address (middle-of low high + 1) high whole
         go zero n e = absurd (omega arith)
         go (suc more) n e = record {
           order = omega arith;
@@ -51,10 +51,10 @@ module _ (addresses : List ℕ) (count address low high whole : ℕ) (so-far : H
         }
 
     pub halved-down : address < getD addresses (middle-of low high) 0 → Halving addresses count address low (middle-of low high) whole
-    unfolding halves
+    unfolding by-halves
     halved-down h = go (so-far .more) (so-far .enough) (so-far .same)
       where
-        go : (more : ℕ) → high - low ≤ more → halves more addresses address low high ≡ whole → Halving addresses count address low (middle-of low high) whole
+        go : (more : ℕ) → high - low ≤ more → by-halves more addresses address low high ≡ whole → Halving addresses count address low (middle-of low high) whole
         go zero n e = absurd (omega arith)
         go (suc more) n e = record {
           order = omega arith;
@@ -65,24 +65,24 @@ module _ (addresses : List ℕ) (count address low high whole : ℕ) (so-far : H
         }
 
 -- a search ends within its bounds
-pub halves-within : (addresses : List ℕ) (address more low high : ℕ) → low ≤ high → halves more addresses address low high ≤ high
-unfolding halves
+pub halves-within : (addresses : List ℕ) (address more low high : ℕ) → low ≤ high → by-halves more addresses address low high ≤ high
+unfolding by-halves
 halves-within addresses address zero low high h = h
 halves-within addresses address (suc more) low high h = go (λ l m n. halves-within addresses address more l m n) (ltb low high) refl
   where
     Rest : Type 0
-    Rest = (l m : ℕ) → l ≤ m → halves more addresses address l m ≤ m
+    Rest = (l m : ℕ) → l ≤ m → by-halves more addresses address l m ≤ m
 
     middle : ℕ
     middle = middle-of low high
 
     side : Rest → (t : Bool) → low < high
-        → (if t then halves more addresses address (middle + 1) high else halves more addresses address low middle) ≤ high
+        → (if t then by-halves more addresses address (middle + 1) high else by-halves more addresses address low middle) ≤ high
     side rest true l = rest (middle + 1) high (omega arith)
     side rest false l = omega (arith, rest low middle (omega arith))
 
     go : Rest → (t : Bool) → ltb low high ≡ t
-        → (if t then (if leb (getD addresses middle 0) address then halves more addresses address (middle + 1) high else halves more addresses address low middle) else low) ≤ high
+        → (if t then (if leb (getD addresses middle 0) address then by-halves more addresses address (middle + 1) high else by-halves more addresses address low middle) else low) ≤ high
     go rest true t = side rest (leb (getD addresses middle 0) address) (ltb-true low high t)
     go rest false t = h
 
@@ -100,21 +100,21 @@ rising-from addresses count rising i j h l =
 
 module _ (addresses : List ℕ) (count address : ℕ) (rising : Rising addresses count) where
   halves-part : (more low high : ℕ) → high - low ≤ more → Parted addresses count address low high
-      → Parted addresses count address (halves more addresses address low high) (halves more addresses address low high)
-  unfolding halves
+      → Parted addresses count address (by-halves more addresses address low high) (by-halves more addresses address low high)
+  unfolding by-halves
   halves-part zero low high n p = let e : high ≡ low = omega (arith, p .order) in rw e at p
   halves-part (suc more) low high n p = go (λ l h m q. halves-part more l h m q) (ltb low high) refl
     where
       Rest : Type 0
       Rest =
           (l h : ℕ) → h - l ≤ more → Parted addresses count address l h
-          → Parted addresses count address (halves more addresses address l h) (halves more addresses address l h)
+          → Parted addresses count address (by-halves more addresses address l h) (by-halves more addresses address l h)
 
       middle : ℕ
       middle = middle-of low high
 
       side : Rest → (t : Bool) → leb (getD addresses middle 0) address ≡ t → low < high
-          → let k = if t then halves more addresses address (middle + 1) high else halves more addresses address low middle in Parted addresses count address k k
+          → let k = if t then by-halves more addresses address (middle + 1) high else by-halves more addresses address low middle in Parted addresses count address k k
       side rest true t h =
           let here = leb-true (getD addresses middle 0) address t in
           rest (middle + 1) high (omega arith) (record {
@@ -133,7 +133,7 @@ module _ (addresses : List ℕ) (count address : ℕ) (rising : Rising addresses
           })
 
       go : Rest → (t : Bool) → ltb low high ≡ t
-          → let k = if t then (if leb (getD addresses middle 0) address then halves more addresses address (middle + 1) high else halves more addresses address low middle) else low in
+          → let k = if t then (if leb (getD addresses middle 0) address then by-halves more addresses address (middle + 1) high else by-halves more addresses address low middle) else low in
           Parted addresses count address k k
       go rest true t = side rest (leb (getD addresses middle 0) address) refl (ltb-true low high t)
       go rest false t = let e : high ≡ low = omega (arith, p .order, ltb-false low high t) in rw e at p
@@ -185,7 +185,7 @@ pub record Entry (t : Table) (address : ℕ) (l : Landing) : Type 0 where
 
 module _ (t : Table) (sorted : Sorted t) (address : ℕ) where
   abbrev at : ℕ
-  at = halves (t .count) (t .addresses) address 0 (t .count)
+  at = by-halves (t .count) (t .addresses) address 0 (t .count)
 
   parted : Parted (t .addresses) (t .count) address at at
   parted =

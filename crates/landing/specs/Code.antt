@@ -44,12 +44,12 @@ unfoldable pub tabled : List ℕ → ℕ → Table → Table
 tabled listing base t = if ltb 65536 (length listing) then t else all-entered listing (layout listing base) t
 
 -- how many addresses are not above one, of those between two bounds, by so many halvings at the most
-unfoldable pub halves : ℕ → List ℕ → ℕ → ℕ → ℕ → ℕ
-halves zero addresses address low high = low
-halves (suc more) addresses address low high =
+unfoldable pub by-halves : ℕ → List ℕ → ℕ → ℕ → ℕ → ℕ
+by-halves zero addresses address low high = low
+by-halves (suc more) addresses address low high =
     if ltb low high
     then (let middle = low + (high - low) / 2 in
-    if leb (getD addresses middle 0) address then halves more addresses address (middle + 1) high else halves more addresses address low middle)
+    if leb (getD addresses middle 0) address then by-halves more addresses address (middle + 1) high else by-halves more addresses address low middle)
     else low
 
 -- the last of so many entries
@@ -61,7 +61,7 @@ last-of (suc k) t = At (record { address = getD (t .addresses) k 0; place = reco
 unfoldable pub last-to : Table → ℕ → Last
 last-to t address =
     let all = min (t .count) (min (length (t .addresses)) (length (t .places))) in
-    last-of (halves all (t .addresses) address 0 all) t
+    last-of (by-halves all (t .addresses) address 0 all) t
 
 -- ---- what a table says
 -- the place of a landing place, if there is one

@@ -3,7 +3,7 @@
 ghost use mathlib.Core.Path.{_≡_};
 ghost use Prim.Native.Nat.{_≤_, min};
 ghost use lib.ListN.{length};
-ghost use Rattle.landing.specs.Code.{table, lands-seen, entered, tabled, halves, last-to};
+ghost use Rattle.landing.specs.Code.{table, lands-seen, entered, tabled, by-halves, last-to};
 use layout::Point;
 use layout::Seen;
 use reading::Place;
@@ -97,7 +97,7 @@ fn least_of(a: usize, b: usize) -> usize
 // How many entries are not above an address, by halves: those before `low` are not, those from `high` on are.
 fn entries_to(addresses: &[u32], count: usize, address: u32) -> usize
     requires { ⌜ count ≤ length (now addresses) ⌝ }
-    ensures { λ r. ⌜ r ≡ halves count (now (addresses .entry)) address 0 count ⌝ }
+    ensures { λ r. ⌜ r ≡ by-halves count (now (addresses .entry)) address 0 count ⌝ }
 {
     let mut low = 0;
     let mut high = count;

@@ -2,13 +2,13 @@ use Prim.Native.Nat.{_-_}
 use mathlib.Core.Path.{refl}
 use native.Mathlib.Omega.{arith}
 use borrow.Author.Needs.{needs}
-use Rattle.landing.specs.Code.{halves}
+use Rattle.landing.specs.Code.{by-halves}
 use Rattle.landing.proofs.Halves.{Halving, halved, halved-up, halved-down}
 use Rattle.landing.proofs.entries_to.Statement.{statement}
 use Rattle.landing.proofs.entries_to.Tie as tie
 
 abbrev Inv-loop : tie.InvT-loop
-Inv-loop addresses count address low₀ high₀ low high = Halving addresses count address low high (halves count addresses address 0 count)
+Inv-loop addresses count address low₀ high₀ low high = Halving addresses count address low high (by-halves count addresses address 0 count)
 
 abbrev μ-loop : tie.MeasureT-loop
 μ-loop addresses count address low₀ high₀ low high = high - low

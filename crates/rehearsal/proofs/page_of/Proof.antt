@@ -1,17 +1,17 @@
 use lib.ListN.{length}
 use borrow.Author.Tests.{lt-ltb, le-ltb}
-use Rattle.rehearsal.specs.Program.{text-of, text-after, place-of, place-after}
+use Rattle.rehearsal.specs.Program.{text-of, text-after, place-of, place-after, stored-of, stored-after}
 use borrow.Author.Needs.{needs}
 use Rattle.rehearsal.proofs.page_of.Statement.{statement}
 use Rattle.rehearsal.proofs.page_of.Tie as tie
 
 returns : tie.Need-returns
-unfolding text-of place-of
+unfolding text-of place-of stored-of
 returns c =
     rw (lt-ltb 32768 (length (c .before .before .before .args .listing .now)) (c .before .if1 .taken), c .check-text-of .ensures)
 
 returns-2 : tie.Need-returns-2
-unfolding text-of text-after place-of place-after
+unfolding text-of text-after place-of place-after stored-of stored-after
 returns-2 c =
     let e = c .before .before .before in
     rw (
@@ -21,7 +21,7 @@ returns-2 c =
     ) (c .run-page-of .ensures)
 
 returns-3 : tie.Need-returns-3
-unfolding text-of text-after place-of place-after
+unfolding text-of text-after place-of place-after stored-of stored-after
 returns-3 c =
     let e = c .before .before .before .before in
     rw (

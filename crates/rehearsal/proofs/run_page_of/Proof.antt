@@ -7,10 +7,10 @@ use Rattle.rehearsal.proofs.run_page_of.Tie as tie
 returns : tie.Need-returns
 unfolding run-text
 returns c =
-    let e = c .before .before .before .before .before .before in
+    let e = c .before .before .before .before .before .before .before in
     let s = e .before .before in
-    let listing = s .before .before .before .args .listing .now in
-    let is = ran-is (e .run .result) (s .start-of .result) listing (e .run .last .1 .1 .1 .0) (s .start-of .ensures) (rw (s .before .new .ensures) at (e .run .ensures)) in
+    let a = s .before .before .before .args in
+    let is = ran-is (e .begin .result) (s .start-of .result) (a .budget) (a .listing .now) (e .begin .last .1 .1 .1 .0) (s .start-of .ensures) (rw (s .before .new .ensures) at (e .begin .ensures)) in
     rw (← is, c .end-text-of .ensures)
 
 pub run-page-of-spec : {M : Type 1} → statement M

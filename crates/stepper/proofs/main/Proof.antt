@@ -10,7 +10,7 @@ use Rattle.stepper.proofs.main.Tie as tie
 array-share-prefix-room : tie.Need-array-share-prefix-room
 array-share-prefix-room c =
     let e = c .before in
-    let short = told-short (e .rehearse .result) _ _ (e .rehearse .last .1 .0) (e .rehearse .ensures) in
+    let short = told-short (e .rehearse .result) _ _ _ (e .rehearse .last .1 .0) (e .rehearse .ensures) in
     let kept : length (e .rehearse .last .1 .0) ≡ 256 = e .rehearse .kept .1 .0 in
     omega arith
 
@@ -32,9 +32,5 @@ main-spec =
     array-share-prefix-room
     slice-aggregate-write-all
     (λ c κs. search needs)
-    (λ c. search needs)
-    (λ c κs. search needs)
-    (λ c κs. search needs)
-    (λ c. search needs)
     (λ c κs. search needs)
     (λ c. search needs))
