@@ -24,6 +24,10 @@ pub record Table : Type 0 where
 abbrev pub table : List ℕ → List ℕ → ℕ → Table
 table addresses places count = record { addresses = addresses; places = places; count = count }
 
+-- a count that was given, and the lent room after it
+abbrev pub table-left : ℕ → List ℕ → List ℕ → Table
+table-left count addresses places = record { count = count; addresses = addresses; places = places }
+
 -- a point is a landing place by what was seen there
 unfoldable pub lands-seen : Point → Seen → Bool
 lands-seen p seen = free p && not (seen-filled seen)

@@ -3,7 +3,7 @@
 ghost use mathlib.Core.Path.{_≡_};
 ghost use Prim.Native.Nat.{_≤_, min};
 ghost use lib.ListN.{length};
-ghost use Rattle.landing.specs.Code.{table, lands-seen, entered, tabled, by-halves, last-to};
+ghost use Rattle.landing.specs.Code.{table, table-left, lands-seen, entered, tabled, by-halves, last-to};
 use layout::Point;
 use layout::Seen;
 use reading::Place;
@@ -22,7 +22,7 @@ pub enum Last {
 // An entry for each landing place, in order, while there is room for it, and how many these are. A listing has at most 32,769: of 32,768
 // records, as each has two bytes or more, and of the end. One that is over its limit has none.
 pub fn list_all(listing: &[u8], base: u32, addresses: &mut [u32], places: &mut [u32]) -> usize
-    ensures { λ r. ⌜ table (now (addresses .exit)) (now (places .exit)) r ≡ tabled (now (listing .entry)) base (table (now (addresses .entry)) (now (places .entry)) 0) ⌝ }
+    ensures { λ r. ⌜ table-left r (now (addresses .exit)) (now (places .exit)) ≡ tabled (now (listing .entry)) base (table (now (addresses .entry)) (now (places .entry)) 0) ⌝ }
 {
     if 65536 < listing.len() {
         return 0;

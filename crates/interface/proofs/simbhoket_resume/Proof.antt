@@ -1,24 +1,27 @@
+use mathlib.Core.Bool.{true, _&&_}
+use mathlib.Core.Path.{_≡_}
 use borrow.Author.Needs.{needs}
+use lib.Dec.{eqb}
+use lib.ListN.{length}
+use Rattle.setup.specs.Setup.{at-base}
+use Rattle.image.specs.Image.{is-image}
+use Rattle.run.specs.Run.{rehearsal}
 use Rattle.interface.specs.Interface.{halt-leaving, image-resumed}
+use Rattle.interface.proofs.Laws.{gone-on}
 use Rattle.interface.proofs.simbhoket_resume.Statement.{statement}
 use Rattle.interface.proofs.simbhoket_resume.Tie as tie
 
 returns : tie.Need-returns
-unfolding image-resumed halt-leaving
+unfolding halt-leaving
 returns c =
     let g = c .before .before .before .before .before .before .before .before .before in
+    let i = g .before .before .before .before .before .before .before in
+    let a = i .before .before .before .before .before .before .args in
     let k = c .before .before .before .before .hand-back .ensures in
-    rw (
-      ← g .before .before .before .before .before .before .before .is-image-of .ensures,
-      g .before .before .before .before .before .before .if1 .taken,
-      ← g .before .before .before .before .read .ensures,
-      ← g .before .before .before .stored-of .ensures,
-      ← g .before .new .ensures,
-      ← g .resume .ensures,
-      k .0,
-      k .1,
-      k .2,
-    )
+    let known : (is-image (a .machine .now) && eqb (length (a .answer .now)) 16) ≡ true = rw (i .is-image-of .ensures) at (g .before .before .before .before .before .before .if1 .taken) in
+    rw (k .0, k .1, k .2)
+    (gone-on (a .budget) (rehearsal (a .listing .now) (a .origin) (at-base (a .base))) (a .machine .now) (a .memory .now) (a .answer .now) known _ (a .place)
+    (rw (g .before .new .ensures, g .before .before .before .stored-of .ensures, g .before .before .before .before .read .ensures) at (g .resume .ensures)))
 
 returns-2 : tie.Need-returns-2
 unfolding image-resumed
