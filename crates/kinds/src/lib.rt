@@ -84,7 +84,7 @@ fn word_of(a: u8, b: u8, c: u8, d: u8) -> u32
     (half_of(c, d) as u32) << 16 | half_of(a, b) as u32
 }
 
-fn shifted_register_from(r: [u8; 9]) -> ShiftedRegisterFields
+pub fn shifted_register_from(r: [u8; 9]) -> ShiftedRegisterFields
     ensures { λ t. ⌜ ShiftedRegister t ≡ shifted-register-from r ⌝ }
 {
     ShiftedRegisterFields {
@@ -98,7 +98,7 @@ fn shifted_register_from(r: [u8; 9]) -> ShiftedRegisterFields
     }
 }
 
-fn constant_from(r: [u8; 9]) -> ConstantFields
+pub fn constant_from(r: [u8; 9]) -> ConstantFields
     ensures { λ t. ⌜ Constant t ≡ constant-from r ⌝ }
 {
     ConstantFields {
@@ -110,7 +110,7 @@ fn constant_from(r: [u8; 9]) -> ConstantFields
     }
 }
 
-fn register_shift_from(r: [u8; 9]) -> RegisterShiftFields
+pub fn register_shift_from(r: [u8; 9]) -> RegisterShiftFields
     ensures { λ t. ⌜ RegisterShift t ≡ register-shift-from r ⌝ }
 {
     RegisterShiftFields {
@@ -122,7 +122,7 @@ fn register_shift_from(r: [u8; 9]) -> RegisterShiftFields
     }
 }
 
-fn add_number_from(r: [u8; 9]) -> AddNumberFields
+pub fn add_number_from(r: [u8; 9]) -> AddNumberFields
     ensures { λ t. ⌜ AddNumber t ≡ add-number-from r ⌝ }
 {
     AddNumberFields {
@@ -134,7 +134,7 @@ fn add_number_from(r: [u8; 9]) -> AddNumberFields
     }
 }
 
-fn move_number_from(r: [u8; 9]) -> MoveNumberFields
+pub fn move_number_from(r: [u8; 9]) -> MoveNumberFields
     ensures { λ t. ⌜ MoveNumber t ≡ move-number-from r ⌝ }
 {
     MoveNumberFields {
@@ -145,7 +145,7 @@ fn move_number_from(r: [u8; 9]) -> MoveNumberFields
     }
 }
 
-fn unary_from(r: [u8; 9]) -> UnaryFields
+pub fn unary_from(r: [u8; 9]) -> UnaryFields
     ensures { λ t. ⌜ Unary t ≡ unary-from r ⌝ }
 {
     UnaryFields {
@@ -156,7 +156,7 @@ fn unary_from(r: [u8; 9]) -> UnaryFields
     }
 }
 
-fn multiply_from(r: [u8; 9]) -> MultiplyFields
+pub fn multiply_from(r: [u8; 9]) -> MultiplyFields
     ensures { λ t. ⌜ Multiply t ≡ multiply-from r ⌝ }
 {
     MultiplyFields {
@@ -169,7 +169,7 @@ fn multiply_from(r: [u8; 9]) -> MultiplyFields
     }
 }
 
-fn long_multiply_from(r: [u8; 9]) -> LongMultiplyFields
+pub fn long_multiply_from(r: [u8; 9]) -> LongMultiplyFields
     ensures { λ t. ⌜ LongMultiply t ≡ long-multiply-from r ⌝ }
 {
     LongMultiplyFields {
@@ -182,7 +182,7 @@ fn long_multiply_from(r: [u8; 9]) -> LongMultiplyFields
     }
 }
 
-fn divide_from(r: [u8; 9]) -> DivideFields
+pub fn divide_from(r: [u8; 9]) -> DivideFields
     ensures { λ t. ⌜ Divide t ≡ divide-from r ⌝ }
 {
     DivideFields {
@@ -194,7 +194,7 @@ fn divide_from(r: [u8; 9]) -> DivideFields
     }
 }
 
-fn saturate_from(r: [u8; 9]) -> SaturateFields
+pub fn saturate_from(r: [u8; 9]) -> SaturateFields
     ensures { λ t. ⌜ Saturate t ≡ saturate-from r ⌝ }
 {
     SaturateFields {
@@ -208,7 +208,7 @@ fn saturate_from(r: [u8; 9]) -> SaturateFields
     }
 }
 
-fn bit_field_from(r: [u8; 9]) -> BitFieldFields
+pub fn bit_field_from(r: [u8; 9]) -> BitFieldFields
     ensures { λ t. ⌜ BitField t ≡ bit-field-from r ⌝ }
 {
     BitFieldFields {
@@ -221,7 +221,7 @@ fn bit_field_from(r: [u8; 9]) -> BitFieldFields
     }
 }
 
-fn extend_from(r: [u8; 9]) -> ExtendFields
+pub fn extend_from(r: [u8; 9]) -> ExtendFields
     ensures { λ t. ⌜ Extend t ≡ extend-from r ⌝ }
 {
     ExtendFields {
@@ -233,7 +233,7 @@ fn extend_from(r: [u8; 9]) -> ExtendFields
     }
 }
 
-fn access_from(r: [u8; 9]) -> AccessFields
+pub fn access_from(r: [u8; 9]) -> AccessFields
     ensures { λ t. ⌜ Access t ≡ access-from r ⌝ }
 {
     AccessFields {
@@ -246,7 +246,7 @@ fn access_from(r: [u8; 9]) -> AccessFields
     }
 }
 
-fn indexed_access_from(r: [u8; 9]) -> IndexedAccessFields
+pub fn indexed_access_from(r: [u8; 9]) -> IndexedAccessFields
     ensures { λ t. ⌜ IndexedAccess t ≡ indexed-access-from r ⌝ }
 {
     IndexedAccessFields {
@@ -259,7 +259,7 @@ fn indexed_access_from(r: [u8; 9]) -> IndexedAccessFields
     }
 }
 
-fn dual_access_from(r: [u8; 9]) -> DualAccessFields
+pub fn dual_access_from(r: [u8; 9]) -> DualAccessFields
     ensures { λ t. ⌜ DualAccess t ≡ dual-access-from r ⌝ }
 {
     DualAccessFields {
@@ -273,7 +273,7 @@ fn dual_access_from(r: [u8; 9]) -> DualAccessFields
     }
 }
 
-fn multiple_access_from(r: [u8; 9]) -> MultipleAccessFields
+pub fn multiple_access_from(r: [u8; 9]) -> MultipleAccessFields
     ensures { λ t. ⌜ MultipleAccess t ≡ multiple-access-from r ⌝ }
 {
     MultipleAccessFields {
@@ -285,7 +285,7 @@ fn multiple_access_from(r: [u8; 9]) -> MultipleAccessFields
     }
 }
 
-fn branch_from(r: [u8; 9]) -> BranchFields
+pub fn branch_from(r: [u8; 9]) -> BranchFields
     ensures { λ t. ⌜ Branch t ≡ branch-from r ⌝ }
 {
     BranchFields {
@@ -296,7 +296,7 @@ fn branch_from(r: [u8; 9]) -> BranchFields
     }
 }
 
-fn register_branch_from(r: [u8; 9]) -> RegisterBranchFields
+pub fn register_branch_from(r: [u8; 9]) -> RegisterBranchFields
     ensures { λ t. ⌜ RegisterBranch t ≡ register-branch-from r ⌝ }
 {
     RegisterBranchFields {
@@ -306,7 +306,7 @@ fn register_branch_from(r: [u8; 9]) -> RegisterBranchFields
     }
 }
 
-fn compare_branch_from(r: [u8; 9]) -> CompareBranchFields
+pub fn compare_branch_from(r: [u8; 9]) -> CompareBranchFields
     ensures { λ t. ⌜ CompareBranch t ≡ compare-branch-from r ⌝ }
 {
     CompareBranchFields {
@@ -317,7 +317,7 @@ fn compare_branch_from(r: [u8; 9]) -> CompareBranchFields
     }
 }
 
-fn if_then_from(r: [u8; 9]) -> IfThenFields
+pub fn if_then_from(r: [u8; 9]) -> IfThenFields
     ensures { λ t. ⌜ IfThen t ≡ if-then-from r ⌝ }
 {
     IfThenFields {
@@ -328,7 +328,7 @@ fn if_then_from(r: [u8; 9]) -> IfThenFields
     }
 }
 
-fn table_branch_from(r: [u8; 9]) -> TableBranchFields
+pub fn table_branch_from(r: [u8; 9]) -> TableBranchFields
     ensures { λ t. ⌜ TableBranch t ≡ table-branch-from r ⌝ }
 {
     TableBranchFields {
