@@ -1,2 +1,5 @@
 pub mod Seats
+pub mod Faced
 pub mod Rounds
+pub mod Steps
+pub mod Racing

@@ -1,16 +1,21 @@
 // The run of a listing: its steps repeated, within a budget. The running machine has the place of the record at R15 beside it.
 
+ghost use mathlib.Core.Bool.{true};
 ghost use mathlib.Core.Path.{_≡_};
 ghost use lib.ListN.{length};
 ghost use Rattle.landing.specs.Code.{table};
 ghost use Rattle.listing.specs.Check.{checked};
-ghost use Rattle.machine.specs.Machine.{PC, held};
-ghost use Rattle.run.specs.Run.{rehearsal, state, round, rounds, run-of, ending, outcome};
+ghost use Rattle.setup.specs.Setup.{fits};
+ghost use Rattle.machine.specs.Machine.{PC, held, good};
+ghost use Rattle.lent.specs.Lent.{assembled, flags-of};
+ghost use Rattle.run.specs.Run.{rehearsal, state, rounds, run-of, ending, outcome};
 ghost use Rattle.run.specs.Place.{same-place, fresh-run, resumed, halting, halt};
-ghost use Rattle.run.specs.Code.{seat, seat-at, Known, seen-from, facing, used-up-at, handed, round-handed, arrived, set-out, proceeded};
+ghost use Rattle.run.specs.Code.{seat, seat-at, Known, seen-from, facing, used-up-at, spot, arrived, set-out, proceeded};
 
+mod race;
 mod seat;
 
+use flags::Flags;
 use machine::Machine;
 use reading::Place;
 use seat::Seat;
@@ -49,15 +54,6 @@ pub enum Sight {
     AtRecord(Place),
     AtEnd,
     AtNone,
-}
-
-// A round: whether the run is over, with which number and place; the machine after it, and where that is.
-pub struct Taken {
-    pub over: bool,
-    pub number: u32,
-    pub place: Place,
-    pub machine: Machine,
-    pub seat: Seat,
 }
 
 pub fn run(
@@ -161,7 +157,7 @@ fn go(
     setup: Setup,
     budget: u32,
 ) -> Halted
-    requires { ⌜ checked (now listing) base .number ≡ 0 ⌝ }
+    requires { ⌜ (checked (now listing) base .number ≡ 0) × (good (running .machine) ≡ true) × (fits setup (now memory) ≡ true) ⌝ }
     ensures { λ r. ⌜ halting r (now (memory .exit)) ≡ halt (set-out anew budget (rehearsal (now (listing .entry)) base setup) (state (running .machine) (now (memory .entry))) (running .stored)) ⌝ }
 {
     let mut addresses = [0u32; 32769];
@@ -205,7 +201,7 @@ fn is_same(a: Stored, b: Stored) -> bool
     }
 }
 
-// The rounds, to the end of the run or of the budget.
+// The rounds, to the end of the run or of the budget: registers and flags are lent to them.
 fn repeat(
     machine: Machine,
     seat: Seat,
@@ -218,37 +214,54 @@ fn repeat(
     setup: Setup,
     budget: u32,
 ) -> Halted
-    requires { ⌜ Known (now listing) base (table (now addresses) (now places) entries) × (seat ≡ seat-at (now listing) base (held machine PC)) ⌝ }
+    requires { ⌜ Known (now listing) base (table (now addresses) (now places) entries) × (seat ≡ seat-at (now listing) base (held machine PC)) × (good machine ≡ true) × (fits setup (now memory) ≡ true) ⌝ }
     ensures { λ r. ⌜ halting r (now (memory .exit)) ≡ (let h = rehearsal (now (listing .entry)) base setup in halt (arrived h (rounds budget h (state machine (now (memory .entry)))))) ⌝ }
 {
-    let mut count = 0;
-    let mut m = machine;
-    let mut at = seat;
-    while count < budget {
-        let next = count + 1;
-        let round = take(
-            m,
-            at,
-            listing,
-            base,
-            addresses,
-            places,
-            entries,
-            memory,
-            setup,
-        );
-        m = round.machine;
-        at = round.seat;
-        let over = round.over;
-        if over {
-            let place = round.place;
-            return end(round.number, place, count, m, at);
-        }
-        count = next;
+    let length = listing.len();
+    let waiting = machine.waiting;
+    let place = spot_of(face(seat, waiting, length), length);
+    let mut registers = machine.registers;
+    let flags = machine.flags;
+    let mut marks = [flags.n, flags.z, flags.c, flags.v, flags.q];
+    let raced = race::race(
+        &mut registers,
+        &mut marks,
+        waiting,
+        place,
+        listing,
+        base,
+        addresses,
+        places,
+        entries,
+        memory,
+        setup,
+        budget,
+    );
+    let left = raced.waiting;
+    let after = assemble(registers, marks, left);
+    let at = seat::find(listing, base, addresses, places, entries, registers[15]);
+    if 0 < raced.number {
+        return end(raced.number, Place(raced.place), raced.count, after, at);
     }
-    let waiting = m.waiting;
-    let number = used_up_of(face(at, waiting, listing.len()));
-    end(number, Place(0), count, m, at)
+    let number = used_up_of(face(at, left, length));
+    end(number, Place(0), raced.count, after, at)
+}
+
+fn assemble(registers: [u32; 16], marks: [bool; 5], waiting: Waiting) -> Machine
+    ensures { λ m. ⌜ m ≡ assembled registers (flags-of marks) waiting ⌝ }
+{
+    let flags = Flags {
+        n: marks[0],
+        z: marks[1],
+        c: marks[2],
+        v: marks[3],
+        q: marks[4],
+    };
+    Machine {
+        registers,
+        flags,
+        waiting,
+    }
 }
 
 fn end(number: u32, place: Place, count: u32, machine: Machine, seat: Seat) -> Halted
@@ -261,64 +274,6 @@ fn end(number: u32, place: Place, count: u32, machine: Machine, seat: Seat) -> H
         place,
         count,
         running,
-    }
-}
-
-fn take(
-    machine: Machine,
-    seat: Seat,
-    listing: &[u8],
-    base: u32,
-    addresses: &[u32],
-    places: &[u32],
-    entries: usize,
-    memory: &mut [u8],
-    setup: Setup,
-) -> Taken
-    requires { ⌜ Known (now listing) base (table (now addresses) (now places) entries) × (seat ≡ seat-at (now listing) base (held machine PC)) ⌝ }
-    ensures { λ r. ⌜ handed r (now (memory .exit)) ≡ (let h = rehearsal (now (listing .entry)) base setup in let s = state machine (now (memory .entry)) in round-handed h (round h s) s) ⌝ }
-{
-    let waiting = machine.waiting;
-    match face(seat, waiting, listing.len()) {
-        Sight::AtRecord(place) => {
-            let from = machine.register(Machine::PC);
-            let part = reading::part_of(listing, place);
-            let stepped = machine.step(part, memory, setup);
-            let after = stepped.machine;
-            let to = after.register(Machine::PC);
-            let due = seat.due;
-            Taken {
-                over: 0 < stepped.number,
-                number: stepped.number,
-                place,
-                machine: after,
-                seat: seat::follow(
-                    listing,
-                    base,
-                    addresses,
-                    places,
-                    entries,
-                    place,
-                    due,
-                    from,
-                    to,
-                ),
-            }
-        }
-        Sight::AtEnd => Taken {
-            over: true,
-            number: 0,
-            place: Place(0),
-            machine,
-            seat,
-        },
-        Sight::AtNone => Taken {
-            over: true,
-            number: 8,
-            place: Place(0),
-            machine,
-            seat,
-        },
     }
 }
 
@@ -357,5 +312,16 @@ fn used_up_of(seen: Sight) -> u32
         Sight::AtRecord(_) => 10,
         Sight::AtEnd => 0,
         Sight::AtNone => 8,
+    }
+}
+
+// The place of the record that is seen; the listing's length where there is none.
+fn spot_of(seen: Sight, length: usize) -> usize
+    ensures { λ n. ⌜ n ≡ spot seen length ⌝ }
+{
+    match seen {
+        Sight::AtRecord(place) => place.0,
+        Sight::AtEnd => length,
+        Sight::AtNone => length,
     }
 }

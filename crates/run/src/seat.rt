@@ -6,7 +6,7 @@ ghost use Rattle.waiting.specs.Waiting.{nothing};
 ghost use Rattle.landing.specs.Code.{table};
 ghost use Rattle.listing.specs.Check.{checked};
 ghost use Rattle.run.specs.declared.Stored.the-variants.{In, None};
-ghost use Rattle.run.specs.Code.{seat, seat-at, sat, Ahead, Seated, Known};
+ghost use Rattle.run.specs.Code.{seat, seat-at, sat, Ahead, Known};
 use crate::Stored;
 use landing::Last;
 use layout::Address;
@@ -18,38 +18,6 @@ use waiting::Waiting;
 pub struct Seat {
     pub stored: Stored,
     pub due: Waiting,
-}
-
-// After a step from one address to another: the next record is this place and this record's bytes on, unless a filler may stand there;
-// anything else is looked up.
-pub fn follow(
-    listing: &[u8],
-    base: u32,
-    addresses: &[u32],
-    places: &[u32],
-    count: usize,
-    place: Place,
-    due: Waiting,
-    from: u32,
-    to: u32,
-) -> Seat
-    requires { ⌜ Known (now listing) base (table (now addresses) (now places) count) × Seated (now listing) base from place due ⌝ }
-    ensures { λ r. ⌜ r ≡ seat-at (now (listing .entry)) base to ⌝ }
-{
-    let here = Point {
-        place,
-        address: Address(from as u64),
-        waiting: due,
-        parted: false,
-    };
-    let Seen::Goes(_, next) = layout::see(listing, here) else {
-        return find(listing, base, addresses, places, count, to);
-    };
-    let on = (next.address.0 == to as u64) & !next.parted;
-    if on {
-        return seat_at(next);
-    }
-    find(listing, base, addresses, places, count, to)
 }
 
 // The last landing place that is not above an address is at most four records before what stands there.

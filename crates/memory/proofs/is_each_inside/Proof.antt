@@ -1,6 +1,6 @@
 use borrow.Author.Needs.{needs}
 use Prim.Native.Nat.{_-_, _≤_}
-use mathlib.Core.Path.{_≡_, refl, sym}
+use mathlib.Core.Path.{_≡_, refl, sym, ap, _∙_}
 use mathlib.Core.Bool.{true, false}
 use native.Mathlib.Omega.{arith}
 use Rattle.memory.specs.Memory.{inside, holds, further}
@@ -22,14 +22,14 @@ loop-again : tie.Need-loop-again Inv-loop μ-loop
 loop-again c =
     let a = c .before .before .before .before .before .args in
     let l = c .before .before .before .before .loop in
-    let here : holds (a .setup) (a .size) (further (a .address) (l .i)) ≡ true = rw (← c .before .before .wrapping-add-u32 .ensures, ← c .before .is-held .ensures) (c .if1 .taken) in
+    let here : holds (a .setup) (a .size) (further (a .address) (l .i)) ≡ true = ap (holds (a .setup) (a .size)) (sym (c .before .before .wrapping-add-u32 .ensures)) ∙ sym (c .before .is-held .ensures) ∙ c .if1 .taken in
     (omega arith, inside-more (l .i) (a .setup) (a .size) (a .address) (l .inv .1) here)
 
 returns : tie.Need-returns Inv-loop μ-loop
 returns c =
     let a = c .before .before .before .before .before .args in
     let l = c .before .before .before .before .loop in
-    let here : holds (a .setup) (a .size) (further (a .address) (l .i)) ≡ false = rw (← c .before .before .wrapping-add-u32 .ensures, ← c .before .is-held .ensures) (c .if1 .left) in
+    let here : holds (a .setup) (a .size) (further (a .address) (l .i)) ≡ false = ap (holds (a .setup) (a .size)) (sym (c .before .before .wrapping-add-u32 .ensures)) ∙ sym (c .before .is-held .ensures) ∙ c .if1 .left in
     sym (outside (a .count) (l .i) (a .setup) (a .size) (a .address) (c .before .before .before .loop-test .taken) here)
 
 returns-2 : tie.Need-returns-2 Inv-loop μ-loop

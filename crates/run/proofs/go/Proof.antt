@@ -16,8 +16,8 @@ known : (c : tie.After-list-all) → let a = c .before .before .before .before .
     Known (a .listing .now) (a .base) (table (c .list-all .last .1 .1 .0) (c .list-all .last .1 .1 .1 .0) (c .list-all .result))
 known c =
     let s = c .before .before .before .before .before in
-    let p = parts (s .args .listing .now) (s .args .base) (s .pre) in
-    (s .pre, rw (c .list-all .ensures) (table-tells (s .args .listing .now) (s .args .base) (p .size) (p .first) _ _ (search needs) (search needs)))
+    let p = parts (s .args .listing .now) (s .args .base) (s .pre .0) in
+    (s .pre .0, rw (c .list-all .ensures) (table-tells (s .args .listing .now) (s .args .base) (p .size) (p .first) _ _ (search needs) (search needs)))
 
 -- what was found is where the machine is
 seated : (c : tie.After-find) → let a = c .before .before .before .before .before .before .before .before .before .before .before .before .args in c .find .result ≡ seat-at (a .listing .now) (a .base) (held (a .running .machine) PC)
@@ -33,7 +33,7 @@ find-requires : tie.Need-find-requires
 find-requires c κs = known (c .before .before .before .before .before .before)
 
 repeat-requires : tie.Need-repeat-requires
-repeat-requires c κs = (known (c .before .before .before .before .before .before .before .before .before .before .before .before), seated (c .before .before .before .before .before))
+repeat-requires c κs = (known (c .before .before .before .before .before .before .before .before .before .before .before .before), seated (c .before .before .before .before .before), search needs, search needs)
 
 returns : tie.Need-returns
 returns c =

@@ -1,7 +1,8 @@
 use mathlib.Core.Bool.{true, false, _&&_}
-use mathlib.Core.Path.{_≡_}
+use mathlib.Core.Path.{_≡_, sym, _∙_}
 use borrow.Author.Needs.{needs}
 use borrow.Author.Tests.{eqb-true}
+use Rattle.word.proofs.Cases.{both-true}
 use Rattle.setup.specs.Setup.{fits}
 use Rattle.machine.specs.Machine.{good}
 use Rattle.run.specs.Place.{halt}
@@ -15,7 +16,13 @@ fit : (c : tie.After-is-fit) → let a = c .before .before .before .before .befo
 fit c = rw (c .is-fit .ensures, c .before .before .is-good .ensures)
 
 go-requires : tie.Need-go-requires
-go-requires c κs = rw (c .before .before .before .check .ensures) at (eqb-true (c .before .before .before .check .result .number) 0 (c .before .if2 .taken))
+go-requires c κs =
+    let k = c .before .before .before in
+    let f = k .before .before in
+    let a = f .before .before .before .before .before .before .args in
+    let t : (f .before .before .is-good .result && f .is-fit .result) ≡ true = k .before .if1 .taken in
+    let b = both-true (good (a .running .machine)) (fits (a .setup) (a .memory .now)) (sym (fit f) ∙ t) in
+    (rw (k .check .ensures) at (eqb-true (k .check .result .number) 0 (c .before .if2 .taken)), b .0, b .1)
 
 returns : tie.Need-returns
 unfolding proceeded
