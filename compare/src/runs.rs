@@ -2,6 +2,7 @@
 
 pub mod demand;
 mod images;
+mod kinds;
 mod long;
 pub mod pieces;
 pub mod samples;
@@ -20,6 +21,7 @@ use crate::question::run::{Answer, Question};
 use crate::question::Sides;
 use crate::Outcome;
 use demand::Demand;
+use kinds::tally::Kinds;
 use scene::Lies;
 use start::Start;
 use tables::tally::Tables;
@@ -43,11 +45,12 @@ pub fn run(least: u64, seed: u64) -> Result<String, String> {
         comparison.scene(&mut prng)?;
     }
     tables::scenes(&mut comparison, &mut prng)?;
-    let Comparison { sides, tally, tables, demand } = comparison;
+    kinds::scenes(&mut comparison, &mut prng)?;
+    let Comparison { sides, tally, tables, kinds, demand } = comparison;
     let count = sides.count();
     let few = fewer(count, least).into_iter().collect();
-    let told = format!("{tally}{tables}{demand}");
-    match [tally.gaps(), tables.gaps(), demand.gaps(), few].concat() {
+    let told = format!("{tally}{tables}{kinds}{demand}");
+    match [tally.gaps(), tables.gaps(), kinds.gaps(), demand.gaps(), few].concat() {
         gaps if gaps.is_empty() => {
             Ok(format!("{told}runs: {count} compared, no difference (seed {seed})"))
         }
@@ -59,14 +62,15 @@ pub struct Comparison {
     sides: Sides<Question>,
     tally: Tally,
     tables: Tables,
+    kinds: Kinds,
     demand: Demand,
 }
 
 impl Comparison {
     fn new(seed: u64) -> Comparison {
         let demand = Demand::new("accepted listings from their start, ended with", DEMANDED);
-        let (tally, tables) = (Tally::new(), Tables::new());
-        Comparison { sides: Sides::new("run", seed), tally, tables, demand }
+        let (tally, tables, kinds) = (Tally::new(), Tables::new(), Kinds::new());
+        Comparison { sides: Sides::new("run", seed), tally, tables, kinds, demand }
     }
 
     /// A program, its start, and runs with several budgets.

@@ -1,6 +1,6 @@
 //! Steps at random: the number, the machine's image and every byte of memory.
 
-mod aim;
+pub mod aim;
 mod ends;
 mod fillers;
 mod fixed;

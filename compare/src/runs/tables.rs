@@ -2,7 +2,7 @@
 
 mod code;
 mod goals;
-mod memory;
+pub mod memory;
 mod start;
 pub mod tally;
 

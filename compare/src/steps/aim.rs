@@ -112,7 +112,7 @@ fn saturation(prng: &mut Prng, scene: &mut Scene, [bits, shift, s]: [u8; 3], rm:
     scene.set(rm, if shift == 0 { (near as i32 >> by) as u32 } else { near << by });
 }
 
-fn width(op: u8) -> u32 {
+pub fn width(op: u8) -> u32 {
     match op {
         LDR | 5 => 4,
         2 | 4 | 7 => 2,
@@ -155,7 +155,7 @@ fn base(scene: &mut Scene, rn: u8, address: u32, mode: u8, offset: i16) {
 }
 
 /// Rn and Rm, which may be one register, with Rn + Rm * 2^n the address.
-fn indexed(scene: &mut Scene, [rn, rm]: [u8; 2], n: u8, address: u32) {
+pub fn indexed(scene: &mut Scene, [rn, rm]: [u8; 2], n: u8, address: u32) {
     let index = scene.get(rm) << n;
     match (rn == rm, n) {
         (false, _) => scene.set(rn, address.wrapping_sub(index)),

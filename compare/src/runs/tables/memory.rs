@@ -71,7 +71,7 @@ fn extent(prng: &mut Prng, from: i64, past: i64) -> [i64; 2] {
 }
 
 /// As far as it is in memory.
-fn put(memory: &mut [u8], at: i64, bytes: &[u8]) {
+pub fn put(memory: &mut [u8], at: i64, bytes: &[u8]) {
     for (by, &byte) in (0..).zip(bytes) {
         let slot = usize::try_from(at + by).ok().and_then(|at| memory.get_mut(at));
         if let Some(slot) = slot {
