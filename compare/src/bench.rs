@@ -4,8 +4,10 @@
 mod clock;
 mod listings;
 mod loops;
+mod race;
 mod runs;
 mod stream;
+pub mod turns;
 
 use crate::image::Image;
 use crate::{proved, Outcome};
@@ -32,6 +34,7 @@ pub fn run() -> Result<String, String> {
         listings::fillers()?,
         runs::long()?,
         loops::behind()?,
+        race::both()?,
         runs::all_samples()?,
     ];
     Ok(lines.join("\n"))

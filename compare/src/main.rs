@@ -34,10 +34,10 @@ use std::process::ExitCode;
 
 const USAGE: &str =
     "usage: compare records LEAST | steps LEAST [SEED] | checks LEAST [SEED] | runs LEAST [SEED]
-     | resumes LEAST [SEED] | texts LEAST [SEED] | bench
+     | resumes LEAST [SEED] | texts LEAST [SEED] | bench | loop TURNS
      | worked-steps FILE LEAST | worked-checks FILE LEAST | worked-runs FILE LEAST
      | worked-resumes FILE LEAST
-SEED and LEAST, the fewest questions or cases that there have to be, are decimal numbers.";
+SEED, TURNS and LEAST, the fewest questions or cases that there have to be, are decimal numbers.";
 
 /// An error is a text that says what differs.
 type Outcome = Result<(), String>;
@@ -80,6 +80,7 @@ fn outcome(words: &[&str]) -> Option<Result<String, String>> {
         ["worked-runs", file, least] => worked::runs(file, least.parse().ok()?),
         ["worked-resumes", file, least] => worked::resumes(file, least.parse().ok()?),
         ["bench"] => bench::run(),
+        ["loop", turns] => bench::turns::run(turns.parse().ok()?),
         _ => return None,
     };
     Some(outcome)

@@ -5,6 +5,7 @@ use std::path::{Path, PathBuf};
 
 const FOLDER: &str = concat!(env!("CARGO_MANIFEST_DIR"), "/../samples");
 const TABLES: &str = concat!(env!("CARGO_MANIFEST_DIR"), "/../samples/tables");
+const LOOP: &str = concat!(env!("CARGO_MANIFEST_DIR"), "/../samples/loop/loop.bin");
 
 pub struct Sample {
     pub name: String,
@@ -30,6 +31,11 @@ pub fn samples() -> std::result::Result<Vec<Sample>, String> {
 /// Those of samples/tables/, likewise.
 pub fn with_tables() -> std::result::Result<Vec<(Sample, Lending)>, String> {
     all(TABLES, |file| Ok((sample(file)?, lending(file)?)))
+}
+
+/// "A loop for speed", samples/loop/.
+pub fn loop_listing() -> std::result::Result<Vec<u8>, String> {
+    std::fs::read(LOOP).map_err(|error| format!("{LOOP}: {error}"))
 }
 
 fn all<T>(
