@@ -20,13 +20,15 @@ use Rattle.listing.proofs.Accepted.{Accepted}
 use Rattle.machine.specs.Machine.{PC, held, good}
 use Rattle.run.specs.declared.Stored.{Stored}
 use Rattle.run.specs.Run.{Rehearsal, State, Passage, Course, agreeing, faced, over, led-by, rounds, run-of}
+use Rattle.run.specs.Code.{Fit}
+use Rattle.run.proofs.Steps.{next-state, result, next-fit}
 use Rattle.run.specs.Place.{place-in, walks-place, fresh-run}
 use Rattle.demands.specs.Run.{Ended, Unfit, Unaccepted, Reached, Strayed, Spent, Stopped}
 use Rattle.demands.specs.Demand3.{Not-1-to-4, Takes, Last, Attempt, Sound, Demand-3, Restart, Demand-3-resumed, Demand-3-fresh}
-use Rattle.demands.proofs.Rounds.{next-state, passage, By-rounds, rounds-hold}
+use Rattle.demands.proofs.Rounds.{passage, By-rounds, rounds-hold}
 use Rattle.demands.proofs.Facing.{at-point}
 use Rattle.demands.proofs.Run.{begun-run, runs}
-use Rattle.demands.proofs.Stepping.{Fit, result, next-fit, strays}
+use Rattle.demands.proofs.Stepping.{strays}
 use Rattle.demands.proofs.Place.{begins-by, resumed-run}
 
 -- what the tests and the check let begin
@@ -36,7 +38,7 @@ Begun h s = Accepted (h .listing) (h .base) × Fit h s
 -- ---- a run that the check and the tests let begin stops before a step, unless it is over
 attempted : (budget : ℕ) (h : Rehearsal) (s : State) (c : Course) → Begun h s → Ended budget h s c
     → (c .number ≡ 0 → ⊥) → (c .number ≡ 8 → ⊥) → Attempt h c
-attempted budget h s c b (Unfit f e) z t = absurd (true≢false (sym (rw (b .1 .good, b .1 .fits)) ∙ f))
+attempted budget h s c b (Unfit f e) z t = absurd (true≢false (sym (rw (b .1 .machine-good, b .1 .memory-fits)) ∙ f))
 attempted budget h s c b (Unaccepted k f n e) z t = absurd (n (ap (λ (k : Checked). k .number) (sym f) ∙ b .0))
 attempted budget h s c b (Reached a w n e) z t = absurd (z n)
 attempted budget h s c b (Strayed a n e) z t = absurd (t n)
@@ -78,7 +80,7 @@ module _ (h : Rehearsal) (ok : Accepted (h .listing) (h .base)) where
 -- a machine that doesn't stray before its first step
 sound-from : (budget : ℕ) (h : Rehearsal) (s : State) → Begun h s → (faced h (s .machine) ≡ Stray → ⊥) → Sound h (run-of budget h s)
 sound-from budget h s b first =
-    let fit : (good (s .machine) && fits (h .setup) (s .memory)) ≡ true = rw (b .1 .good, b .1 .fits) in
+    let fit : (good (s .machine) && fits (h .setup) (s .memory)) ≡ true = rw (b .1 .machine-good, b .1 .memory-fits) in
     let is = begun-run h s fit (eq-eqb _ 0 (b .0)) budget in
     let k = rounds-hold h _ (by-claim h (b .0)) budget s (b .1) in
     let run = runs budget h s in
@@ -92,7 +94,7 @@ sound-from budget h s b first =
 pub demand-3 : Demand-3
 unfolding start
 demand-3 budget h s b =
-    sound-from budget h s (b .accepted, record { good = b .machine-good; sixteen = b .sixteen; fits = b .memory-fits })
+    sound-from budget h s (b .accepted, record { machine-good = b .machine-good; sixteen = b .sixteen; memory-fits = b .memory-fits })
     (at-point h (b .accepted) (start (h .base)) (start-on (h .listing) (h .base)) (b .no-filler-first) (s .machine) (b .at-first) (b .nothing-waits))
 
 pub demand-3-fresh : Demand-3-fresh
@@ -113,6 +115,6 @@ not-astray h s stored b = go (at-address (h .listing) (h .base) (held (s .machin
 
 pub demand-3-resumed : Demand-3-resumed
 demand-3-resumed budget h s stored b =
-    let fit : Fit h s = record { good = b .machine-good; sixteen = b .sixteen; fits = b .memory-fits } in
+    let fit : Fit h s = record { machine-good = b .machine-good; sixteen = b .sixteen; memory-fits = b .memory-fits } in
     let began = begins-by h s (b .machine-good) (b .memory-fits) (b .accepted) in
     rw (resumed-run budget h s stored began (b .agrees)) (sound-from budget h s (b .accepted, fit) (not-astray h s stored b))

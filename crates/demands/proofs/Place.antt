@@ -21,13 +21,14 @@ use Rattle.paper.proofs.Demands.{step-number}
 use Rattle.run.specs.declared.Stored.{Stored}
 use Rattle.run.specs.declared.Stored.the-variants.{In, None}
 use Rattle.run.specs.Run.{Rehearsal, State, Passage, Course, faced, over, led-by, rounds, run-of}
+use Rattle.run.specs.Code.{Fit}
+use Rattle.run.proofs.Steps.{next-state, next-fit}
 use Rattle.run.specs.Place.{place-in, walks-place, same-place, begins, Journey, journey, fresh-run, resumed, halt}
 use Rattle.demands.specs.Run.{At-record}
 use Rattle.demands.specs.Place.{Step-is, Kept-before, Kept-after, Kept, Cut-and-resumed, One-halting}
-use Rattle.demands.proofs.Rounds.{tried, next-state, passage, By-rounds, rounds-hold, rounds-on, rounds-none}
+use Rattle.demands.proofs.Rounds.{tried, passage, By-rounds, rounds-hold, rounds-on, rounds-none}
 use Rattle.demands.proofs.Facing.{faced-record, faced-end}
 use Rattle.demands.proofs.Run.{begun-run}
-use Rattle.demands.proofs.Stepping.{Fit, next-fit}
 
 pub one-halting : One-halting
 one-halting budget h s stored = (one-outcome (halt (fresh-run budget h s)), one-outcome (halt (resumed budget h s stored)))
@@ -44,17 +45,17 @@ module _ (h : Rehearsal) (s : State) where
   begins-by g f a = rw (g, f, eq-eqb (checked (h .listing) (h .base) .number) 0 a)
 
   module _ (began : begins h s ≡ true) where
-    abbrev fine : Bool
+    abbrev pub fine : Bool
     fine = good (s .machine) && fits (h .setup) (s .memory)
 
-    begun : (fine ≡ true) × (eqb (checked (h .listing) (h .base) .number) 0 ≡ true)
+    pub begun : (fine ≡ true) × (eqb (checked (h .listing) (h .base) .number) 0 ≡ true)
     unfolding begins
     begun = both-true fine (eqb (checked (h .listing) (h .base) .number) 0) began
 
-    accepted : Accepted (h .listing) (h .base)
+    pub accepted : Accepted (h .listing) (h .base)
     accepted = eqb-true (checked (h .listing) (h .base) .number) 0 (begun .1)
 
-    is-rounds : (budget : ℕ) → run-of budget h s ≡ rounds budget h s
+    pub is-rounds : (budget : ℕ) → run-of budget h s ≡ rounds budget h s
     is-rounds = begun-run h s (begun .0) (begun .1)
 
     fresh-is : (budget : ℕ) → fresh-run budget h s ≡ (let c = rounds budget h s in journey c (walks-place h (c .last .machine)))
@@ -172,8 +173,8 @@ pub cut-and-resumed : Cut-and-resumed
 cut-and-resumed budget more h s began sixteen ten =
     let ok = accepted h s began in
     let b = both-true (good (s .machine)) (fits (h .setup) (s .memory)) (begun h s began .0) in
-    let k = rounds-hold h _ (by-split h ok more) budget s (record { good = b .0; sixteen = sixteen; fits = b .1 }) in
+    let k = rounds-hold h _ (by-split h ok more) budget s (record { machine-good = b .0; sixteen = sixteen; memory-fits = b .1 }) in
     let last = rounds budget h s .last in
-    let again = begins-by h last (k .fit .good) (k .fit .fits) ok in
+    let again = begins-by h last (k .fit .machine-good) (k .fit .memory-fits) ok in
     rw (fresh-is h s began budget, fresh-is h s began (budget + more), resumed-is h last again more _ refl)
     (ap (λ (c : Course). journey c (walks-place h (c .last .machine))) (k .whole (rw (is-rounds h s began budget) at ten)))

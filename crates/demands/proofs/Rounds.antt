@@ -9,16 +9,14 @@ use Rattle.machine.specs.Machine.{Outcome}
 use Rattle.word.specs.Choice.{if_then_else_}
 use Rattle.record.specs.declared.Record.{Record}
 use Rattle.layout.specs.declared.Point.{Point}
-use Rattle.run.specs.Run.{Rehearsal, State, state, Passage, Course, Over, Done, faced, attempted, round-at, round, over, led-by, continued, used-up, rounds}
+use Rattle.run.specs.Run.{Rehearsal, State, Passage, Course, Over, Done, faced, attempted, round-at, round, over, led-by, continued, used-up, rounds}
 use Rattle.run.proofs.Rounds.{step-there}
+use Rattle.run.proofs.Steps.{next-state}
 
 module _ (h : Rehearsal) where
-  -- the step of the record at a point, the state after it, and what is kept of it
+  -- the step of the record at a point, and what is kept of it
   abbrev pub tried : State → Point → Outcome
   tried s p = step-there h s (p .place)
-
-  abbrev pub next-state : State → Point → State
-  next-state s p = state (tried s p .answer .machine) (tried s p .memory)
 
   abbrev pub passage : State → Record → Point → Passage
   passage s r p = record { before = s; what = r; point = p }
@@ -31,8 +29,8 @@ module _ (h : Rehearsal) where
     pub stopped : (left : ℕ) (s : State) (r : Record) (p : Point) → faced h (s .machine) ≡ Stands r p
         → (tried s p .answer .number ≡ 0 → ⊥) → P (suc left) s (over (tried s p .answer .number) (p .place .0) s)
     pub stepped : (left : ℕ) (s : State) (r : Record) (p : Point) → faced h (s .machine) ≡ Stands r p
-        → tried s p .answer .number ≡ 0 → P left (next-state s p) (rounds left h (next-state s p))
-        → P (suc left) s (led-by (passage s r p) (rounds left h (next-state s p)))
+        → tried s p .answer .number ≡ 0 → P left (next-state h s p) (rounds left h (next-state h s p))
+        → P (suc left) s (led-by (passage s r p) (rounds left h (next-state h s p)))
 
   pub rounds-hold : (P : ℕ → State → Course → Type 0) → By-rounds P → (left : ℕ) (s : State) → P left s (rounds left h s)
   unfolding rounds round round-at attempted used-up
@@ -46,8 +44,8 @@ module _ (h : Rehearsal) where
     where
       made : ((n : State) → P left n (rounds left h n)) → (r : Record) (p : Point) → faced h (s .machine) ≡ Stands r p
           → (t : Bool) → eqb (tried s p .answer .number) 0 ≡ t
-          → P (suc left) s (continued (if t then Done r p (next-state s p) else Over (tried s p .answer .number) (p .place .0)) s (rounds left h))
-      made rest r p e true t = by .stepped left s r p e (eqb-true (tried s p .answer .number) 0 t) (rest (next-state s p))
+          → P (suc left) s (continued (if t then Done r p (next-state h s p) else Over (tried s p .answer .number) (p .place .0)) s (rounds left h))
+      made rest r p e true t = by .stepped left s r p e (eqb-true (tried s p .answer .number) 0 t) (rest (next-state h s p))
       made rest r p e false t = by .stopped left s r p e (eqb-false (tried s p .answer .number) 0 t)
 
       go : ((n : State) → P left n (rounds left h n)) → (t : AtAddress) → faced h (s .machine) ≡ t
@@ -58,7 +56,7 @@ module _ (h : Rehearsal) where
 
   -- the round of a step that is done
   pub rounds-on : (left : ℕ) (s : State) (r : Record) (p : Point) → faced h (s .machine) ≡ Stands r p → tried s p .answer .number ≡ 0
-      → rounds (suc left) h s ≡ led-by (passage s r p) (rounds left h (next-state s p))
+      → rounds (suc left) h s ≡ led-by (passage s r p) (rounds left h (next-state h s p))
   unfolding rounds round round-at attempted
   rounds-on left s r p e n = rw (e, eq-eqb (tried s p .answer .number) 0 n)
 

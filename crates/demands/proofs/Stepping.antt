@@ -1,5 +1,4 @@
--- The step of a record that is faced in an accepted listing: it is refused with 5, 6 or 7, or the machine is fit again; and it strays
--- only where the record takes its next address from a register or from memory.
+-- The step of a record that is faced in an accepted listing strays only where the record takes its next address from a register or from memory.
 use Prim.Native.Nat.{ℕ, _+_, _%_, _^_}
 use mathlib.Core.Bool.{true, false, true≢false, _&&_}
 use mathlib.Core.Path.{_≡_, refl, sym, ap, _∙_}
@@ -37,14 +36,10 @@ use Rattle.paper.proofs.Parting.{step-parts}
 use Rattle.run.specs.Run.{Rehearsal, State, faced}
 use Rattle.demands.specs.Run.{At-record}
 use Rattle.demands.specs.Demand3.{Takes}
-use Rattle.demands.proofs.Rounds.{tried, next-state, passage}
+use Rattle.run.specs.Code.{Fit}
+use Rattle.run.proofs.Steps as steps
+use Rattle.demands.proofs.Rounds.{tried, passage}
 use Rattle.demands.proofs.Facing.{faced-record, at-point}
-
--- what is carried along; the test for a stray address gives R15 and the waiting conditions anew in every round
-pub record Fit (h : Rehearsal) (s : State) : Type 0 where
-  pub good : good (s .machine) ≡ true
-  pub sixteen : length (s .machine .registers) ≡ 16
-  pub fits : fits (h .setup) (s .memory) ≡ true
 
 module _ (h : Rehearsal) (ok : Accepted (h .listing) (h .base)) where
   -- ---- the step of a record that is faced
@@ -55,40 +50,24 @@ module _ (h : Rehearsal) (ok : Accepted (h .listing) (h .base)) where
     here : At-record h m r p
     here = faced-record h m r p e
 
-    stands : Standing (h .listing) (h .base) (held m PC) r p
-    stands = stands-on (h .listing) (h .base) (held m PC) r p (here .stands)
-
     abbrev q : Point
-    q = stands .next
+    q = steps.q h ok s fit r p e
 
-    unrefused-here : refusal r (waiting-count (m .waiting)) ≡ 0
-    unrefused-here = rw (here .waits) (unrefused (h .listing) p r q (stands .goes) (stands .steps))
-
-    pub result : Result m r (s .memory) (tried h s p)
-    result =
-        let o = onto (h .listing) p r q (stands .goes) in
-        step-result m (part (h .listing) (p .place .0)) (s .memory) (h .setup) r (fit .good) (fit .fits) (fit .sixteen)
-        (ahead (h .listing) (p .place .0) r (q .place) (o .read) .read) unrefused-here
+    abbrev stands : Standing (h .listing) (h .base) (held m PC) r p
+    stands = steps.stands h ok s fit r p e
 
     module _ (done : tried h s p .answer .number ≡ 0) where
       abbrev x : Machine
       x = tried h s p .answer .machine
 
       led : Led m r x
-      led = result .led done
+      led = steps.led h ok s fit r p e done
 
       on : On (h .listing) (h .base) q
-      on = next-on (h .listing) (h .base) p (stands .on) r q (stands .goes)
+      on = steps.on h ok s fit r p e
 
       waits-next : x .waiting ≡ q .waiting
-      waits-next = led .waits ∙ (ap (after r) (here .waits) ∙ sym (waits-after (h .listing) p r q (stands .goes)))
-
-      pub next-fit : Fit h (next-state h s p)
-      next-fit = record {
-        good = good-parts x (led .even) (result .firm) (rw waits-next (is-good (q .waiting) (on-good (h .listing) (h .base) q on)));
-        sixteen = led .sixteen;
-        fits = fits-as-long (h .setup) (s .memory) (tried h s p .memory) (result .size) (fit .fits);
-      }
+      waits-next = steps.waits-next h ok s fit r p e done
 
       -- a record that a filler may stand after takes the machine where it goes
       gone : (traits r .parts && free p) ≡ true → Arrived m r (held x PC)
@@ -96,17 +75,14 @@ module _ (h : Rehearsal) (ok : Accepted (h .listing) (h .base)) where
       gone t =
           let b = both-true (traits r .parts) (free p) t in
           let none : waiting-count (m .waiting) ≡ 0 = rw (here .waits) (eqb-true (waiting-count (p .waiting)) 0 (b .1)) in
-          let o = onto (h .listing) p r q (stands .goes) in
-          step-parts m (part (h .listing) (p .place .0)) (s .memory) (h .setup) r (fit .good) (fit .fits) (fit .sixteen)
-          (ahead (h .listing) (p .place .0) r (q .place) (o .read) .read) unrefused-here
+          step-parts m (part (h .listing) (p .place .0)) (s .memory) (h .setup) r (fit .machine-good) (fit .memory-fits) (fit .sixteen)
+          (steps.read-here h ok s fit r p e) (steps.unrefused-here h ok s fit r p e)
           (cases (row r .parts) (λ e. absurd (true≢false (sym (b .0) ∙ e))) (λ e. e)) (stands .steps) none done
 
       -- a machine that is led on to the next record is at the point after this one, where no filler stands
       not-onward : (traits r .parts && free p) ≡ false → held x PC ≡ following m r → faced h x ≡ Stray → ⊥
       not-onward t a =
-          let low = on-low (h .listing) (h .base) ok q on in
-          let there : (held m PC + machine-length r) % 2 ^ 32 ≡ q .address .0 =
-          omega (arith, stands .at, next-address (h .listing) p r q (stands .goes), low) in
+          let there = steps.next-at h ok s fit r p e in
           at-point h ok q on (unparted (h .listing) q (parted-after (h .listing) p r q (stands .goes) ∙ t)) x
           (a ∙ (ap (cleared 0) there ∙ cleared-same (q .address .0) (on-even (h .listing) (h .base) ok q on)))
           waits-next
