@@ -1,11 +1,9 @@
 -- What a machine faces.
 use Prim.Native.Nat.{ℕ}
-use mathlib.Core.Bool.{Bool, true, false}
+use mathlib.Core.Bool.{true, false}
 use mathlib.Core.List.{List}
-use mathlib.Core.Path.{_≡_, refl, ap, _∙_}
+use mathlib.Core.Path.{_≡_, refl}
 use native.Mathlib.Omega.{arith}
-use Rattle.word.specs.Choice.{if_then_else_}
-use Rattle.waiting.specs.declared.Waiting.{Waiting}
 use Rattle.waiting.specs.Waiting.{nothing, same}
 use Rattle.waiting.proofs.Laws.{same-self}
 use Rattle.record.specs.declared.Record.{Record}

@@ -1,37 +1,28 @@
 -- The step of a record that is faced in an accepted listing strays only where the record takes its next address from a register or from memory.
-use Prim.Native.Nat.{ℕ, _+_, _%_, _^_}
+use Prim.Native.Nat.{ℕ}
 use mathlib.Core.Bool.{true, false, true≢false, _&&_}
 use mathlib.Core.Path.{_≡_, refl, sym, ap, _∙_}
-use native.Mathlib.Omega.{arith}
 use lib.IntN.{ℤ}
-use lib.ListN.{length}
 use borrow.Author.Tests.{eqb-true}
 use Rattle.word.proofs.Cases.{cases, yes-or-no, both-true}
 use Rattle.address.specs.Address.{cleared}
 use Rattle.address.proofs.Laws.{cleared-same}
 use Rattle.waiting.specs.Waiting.{waiting-count, dropped}
-use Rattle.waiting.proofs.Good.{is-good}
 use Rattle.record.specs.declared.Record.{Record}
 use Rattle.flow.specs.declared.Way.{Way}
 use Rattle.flow.specs.declared.Way.the-variants.{Next, Direct, Taken, Fills}
-use Rattle.flow.specs.Flow.{traits, machine-length, way, target, leaves, after}
+use Rattle.flow.specs.Flow.{traits, way, target, leaves, after}
 use Rattle.flow.proofs.Laws.{row, direct-drops}
 use Rattle.reading.specs.Reading.{part}
-use Rattle.reading.proofs.Places.{ahead}
-use Rattle.judge.specs.Judge.{refusal}
-use Rattle.setup.specs.Setup.{fits}
-use Rattle.setup.proofs.Laws.{fits-as-long}
 use Rattle.layout.specs.declared.Point.{Point}
 use Rattle.layout.specs.Layout.{Stands, Stray, free}
-use Rattle.layout.proofs.Points.{onto, next-address}
-use Rattle.layout.proofs.Members.{On, Standing, stands-on, next-on}
-use Rattle.layout.proofs.Blocks.{unrefused, waits-after, parted-after, unparted, leaves-last, on-good}
-use Rattle.listing.proofs.Accepted.{Accepted, on-low, on-even, branch-lands}
+use Rattle.layout.proofs.Members.{On, Standing}
+use Rattle.layout.proofs.Blocks.{parted-after, unparted, leaves-last}
+use Rattle.listing.proofs.Accepted.{Accepted, on-even, branch-lands}
 use Rattle.machine.specs.declared.Machine.{Machine}
-use Rattle.machine.specs.Machine.{PC, held, good}
-use Rattle.paper.proofs.Registers.{good-parts}
+use Rattle.machine.specs.Machine.{PC, held}
 use Rattle.paper.proofs.Steers.{Goes}
-use Rattle.paper.proofs.Came.{following, Arrived, Led, Result, step-result}
+use Rattle.paper.proofs.Came.{following, Arrived, Led}
 use Rattle.paper.proofs.Parting.{step-parts}
 use Rattle.run.specs.Run.{Rehearsal, State, faced}
 use Rattle.demands.specs.Run.{At-record}

@@ -1,9 +1,7 @@
 -- The tests of a step can't fire in a run: by the one case principle over the rounds.
 use Prim.Native.Nat.{ℕ}
-use mathlib.Core.Bool.{true}
 use mathlib.Core.Path.{_≡_}
 use native.Mathlib.Omega.{arith}
-use lib.ListN.{length}
 use Rattle.word.proofs.Cases.{cases, both-true}
 use Rattle.waiting.specs.Waiting.{waiting-count}
 use Rattle.record.specs.declared.Record.{Record}
@@ -13,13 +11,12 @@ use Rattle.layout.specs.declared.Point.{Point}
 use Rattle.layout.specs.Layout.{Stands}
 use Rattle.listing.proofs.Accepted.{Accepted}
 use Rattle.machine.specs.Machine.{good}
-use Rattle.run.specs.Run.{Rehearsal, State, Course, faced, over, led-by, rounds, run-of}
-use Rattle.run.specs.Place.{begins}
+use Rattle.run.specs.Run.{Rehearsal, State, faced, over, rounds}
 use Rattle.run.specs.Code.{Fit}
-use Rattle.run.proofs.Steps.{next-state, read-here, unrefused-here, untested, result, next-fit}
+use Rattle.run.proofs.Steps.{read-here, unrefused-here, untested, result, next-fit}
 use Rattle.demands.specs.Demand3.{Not-1-to-4}
 use Rattle.demands.specs.Tests.{Tests-pass, No-test-fires, Tests-cant-fire, Tests-cant-fire-resumed}
-use Rattle.demands.proofs.Rounds.{tried, passage, By-rounds, rounds-hold}
+use Rattle.demands.proofs.Rounds.{tried, By-rounds, rounds-hold}
 use Rattle.demands.proofs.Place.{accepted, begun, is-rounds, resumed-run}
 
 module _ (h : Rehearsal) (ok : Accepted (h .listing) (h .base)) where

@@ -339,34 +339,7 @@ pub fn table_branch_from(r: [u8; 9]) -> TableBranchFields
     }
 }
 
-// By the kind: the bytes of a record, and the names in its row of the table.
-const LENGTHS: [u8; 24] = [
-    0,
-    8,
-    9,
-    6,
-    7,
-    6,
-    5,
-    7,
-    7,
-    6,
-    8,
-    7,
-    6,
-    8,
-    7,
-    9,
-    7,
-    8,
-    4,
-    5,
-    5,
-    2,
-    5,
-    3,
-];
-
+// By the kind: the names in its row of the table.
 const NAMES: [u8; 23] = [
     0,
     16,
@@ -393,15 +366,37 @@ const NAMES: [u8; 23] = [
     2,
 ];
 
-// The listing bytes of a kind, 0 of one that there is not.
+// The listing bytes of a kind, 0 of one that there is not. A match is a table of the program; an array would be laid out anew at each call.
 pub fn listing_length_of(kind: u8) -> u8
     ensures { λ n. ⌜ n ≡ listing-length kind ⌝ }
 {
-    let at = kind as usize;
-    if at < 24 {
-        return LENGTHS[at];
+    match kind {
+        0 => 0,
+        1 => 8,
+        2 => 9,
+        3 => 6,
+        4 => 7,
+        5 => 6,
+        6 => 5,
+        7 => 7,
+        8 => 7,
+        9 => 6,
+        10 => 8,
+        11 => 7,
+        12 => 6,
+        13 => 8,
+        14 => 7,
+        15 => 9,
+        16 => 7,
+        17 => 8,
+        18 => 4,
+        19 => 5,
+        20 => 5,
+        21 => 2,
+        22 => 5,
+        23 => 3,
+        _ => 0,
     }
-    0
 }
 
 pub fn names_of(kind: u8) -> u8

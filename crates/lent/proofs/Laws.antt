@@ -7,15 +7,14 @@ use lib.Dec.{eqb}
 use lib.ListN.{getD, set, length}
 use lib.Seq.{set-set, set-getD}
 use Rattle.word.specs.Choice.{if_then_else_}
-use Rattle.little.specs.Little.{byte}
 use Rattle.record.specs.declared.Record.{Record}
 use Rattle.fields.specs.Fields.{well-formed}
 use Rattle.kinds.specs.Kinds.{listing-length, readings, nop-from, record-of}
 use Rattle.flags.specs.declared.Flags.{Flags}
 use Rattle.waiting.specs.declared.Waiting.{Waiting}
-use Rattle.machine.specs.Machine.{held, written, with-flags, steady, settled, done, refused, keeping}
+use Rattle.machine.specs.Machine.{held, written, steady, settled, done, refused, keeping}
 use Rattle.machine.specs.Access.{storing}
-use Rattle.lent.specs.Lent.{assembled, put-in, steady-in, Settled, came, Sound, Of-kind}
+use Rattle.lent.specs.Lent.{assembled, put-in, steady-in, Settled, came, Of-kind}
 
 -- ---- taken back
 module _ (e : List ℕ) where

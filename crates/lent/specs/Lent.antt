@@ -24,8 +24,8 @@ abbrev pub assembled : List ℕ → Flags → Waiting → Machine
 assembled registers flags waiting = record { registers = registers; flags = flags; waiting = waiting }
 
 -- the flags, in the order N, Z, C, V, Q
-abbrev pub flags-of : List Bool → Flags
-flags-of marks = record {
+abbrev pub flags-in : List Bool → Flags
+flags-in marks = record {
   n = getD marks 0 false;
   z = getD marks 1 false;
   c = getD marks 2 false;
@@ -74,14 +74,14 @@ Moves number after memory before ahead does =
 
 -- ---- the arm of a record
 -- bytes that begin with a record of which number 2 is not given
-pub record Sound (r : List ℕ) : Type 0 where
+pub record Formed (r : List ℕ) : Type 0 where
   pub whole : listing-length (byte r 0) ≤ length r
   pub formed : well-formed (record-of r) ≡ true
 
 -- of this kind
 pub record Of-kind (kind : ℕ) (r : List ℕ) : Type 0 where
   pub is : byte r 0 ≡ kind
-  pub sound : Sound r
+  pub sound : Formed r
 
 -- what the record does
 abbrev pub Obeys : ℕ → List ℕ → Flags → List ℕ → List ℕ → Flags → ℕ → List ℕ → List ℕ → Setup → Type 0
@@ -97,7 +97,7 @@ Obeys-on number after before ahead r =
 
 abbrev pub Obeys-marking : ℕ → List ℕ → List Bool → List ℕ → List Bool → ℕ → List ℕ → Type 0
 Obeys-marking number after marks before were ahead r =
-    (bytes : List ℕ) (setup : Setup) → Obeys number after (flags-of marks) bytes before (flags-of were) ahead r bytes setup
+    (bytes : List ℕ) (setup : Setup) → Obeys number after (flags-in marks) bytes before (flags-in were) ahead r bytes setup
 
 abbrev pub Obeys-moving : ℕ → List ℕ → List ℕ → List ℕ → ℕ → List ℕ → List ℕ → Setup → Type 0
 Obeys-moving number after memory before ahead r bytes setup =

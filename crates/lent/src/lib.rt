@@ -6,7 +6,7 @@ ghost use lib.ListN.{getD, set};
 ghost use Rattle.word.specs.Choice.{if_then_else_};
 ghost use Rattle.flags.specs.Flags.{passes, signs, all-four, saturating};
 ghost use Rattle.machine.specs.Machine.{PC, written, settled};
-ghost use Rattle.lent.specs.Lent.{flags-of, put-in, operand-in, base-in, steady-in, Settled, Goes-on};
+ghost use Rattle.lent.specs.Lent.{flags-in, put-in, operand-in, base-in, steady-in, Settled, Goes-on};
 
 pub mod bytes;
 
@@ -143,7 +143,7 @@ pub fn put_one(registers: &mut [u32; 16], ahead: u32, rd: u8, value: u32) -> u32
 
 // N, Z, C and V of a result, where the record has S.
 pub fn mark(marks: &mut [bool; 5], s: bool, result: Sum)
-    ensures { λ r. ⌜ flags-of (now (marks .exit)) ≡ (if s then all-four result (flags-of (now (marks .entry))) else flags-of (now (marks .entry))) ⌝ }
+    ensures { λ r. ⌜ flags-in (now (marks .exit)) ≡ (if s then all-four result (flags-in (now (marks .entry))) else flags-in (now (marks .entry))) ⌝ }
 {
     if s {
         let q = marks[4];
@@ -157,7 +157,7 @@ pub fn mark(marks: &mut [bool; 5], s: bool, result: Sum)
 
 // N and Z.
 pub fn mark_signs(marks: &mut [bool; 5], s: bool, value: u32)
-    ensures { λ r. ⌜ flags-of (now (marks .exit)) ≡ (if s then signs value (flags-of (now (marks .entry))) else flags-of (now (marks .entry))) ⌝ }
+    ensures { λ r. ⌜ flags-in (now (marks .exit)) ≡ (if s then signs value (flags-in (now (marks .entry))) else flags-in (now (marks .entry))) ⌝ }
 {
     if s {
         let c = marks[2];
@@ -170,7 +170,7 @@ pub fn mark_signs(marks: &mut [bool; 5], s: bool, value: u32)
 }
 
 pub fn mark_saturation(marks: &mut [bool; 5], saturated: bool)
-    ensures { λ r. ⌜ flags-of (now (marks .exit)) ≡ saturating saturated (flags-of (now (marks .entry))) ⌝ }
+    ensures { λ r. ⌜ flags-in (now (marks .exit)) ≡ saturating saturated (flags-in (now (marks .entry))) ⌝ }
 {
     let n = marks[0];
     let z = marks[1];
@@ -182,7 +182,7 @@ pub fn mark_saturation(marks: &mut [bool; 5], saturated: bool)
 
 // Does a condition hold?
 pub fn passes(marks: &[bool; 5], condition: u8) -> bool
-    ensures { λ r. ⌜ r ≡ passes (flags-of (now (marks .entry))) condition ⌝ }
+    ensures { λ r. ⌜ r ≡ passes (flags-in (now (marks .entry))) condition ⌝ }
 {
     let flags = Flags {
         n: marks[0],

@@ -1,5 +1,5 @@
 -- The table of kinds, row by row: what the bytes of a record say of its traits.
-use Prim.Native.Nat.{ℕ, zero, suc, _+_, _≤_, _<_}
+use Prim.Native.Nat.{ℕ, zero, suc, _+_, _≤_}
 use mathlib.Core.Bool.{Bool, true, false, true≢false, _&&_, _||_}
 use mathlib.Core.List.{List, [], _∷_}
 use mathlib.Core.Path.{_≡_, refl, sym, _∙_}
@@ -29,7 +29,7 @@ use Rattle.setup.specs.declared.Setup.{Setup}
 use Rattle.machine.specs.declared.Machine.{Machine}
 use Rattle.machine.specs.Machine.{done, keeping}
 use Rattle.machine.specs.Step.{effect}
-use Rattle.lent.specs.Lent.{Sound}
+use Rattle.lent.specs.Lent.{Formed}
 use Rattle.pace.specs.Pace.{Stepped-kind, Ready}
 use Rattle.kinds.specs.Kinds.{shifted-register-from, constant-from, register-shift-from, add-number-from, move-number-from, unary-from, multiply-from, long-multiply-from, divide-from, saturate-from, bit-field-from, extend-from, access-from, indexed-access-from, dual-access-from, multiple-access-from, branch-from, register-branch-from, compare-branch-from, if-then-from, table-branch-from}
 
@@ -153,7 +153,7 @@ known kind = let e : kind + 0 ≡ kind = omega arith in rw e at (entry Known 0 0
 
 pub record Read-so (b : List ℕ) (x : Record) : Type 0 where
   pub is : x ≡ record-of b
-  pub sound : Sound b
+  pub sound : Formed b
   pub least : 1 ≤ byte b 0
   pub most : byte b 0 ≤ 23
 

@@ -6,7 +6,7 @@ ghost use Rattle.word.specs.Choice.{if_then_else_};
 ghost use Rattle.flags.specs.Flags.{passes};
 ghost use Rattle.waiting.specs.Waiting.{none};
 ghost use Rattle.flow.specs.Flow.{form-length, machine-length, after, own-condition};
-ghost use Rattle.lent.specs.Lent.{flags-of, Obeys};
+ghost use Rattle.lent.specs.Lent.{flags-in, Obeys};
 ghost use Rattle.kinds.specs.Kinds.{form, record-of};
 ghost use Rattle.pace.specs.Pace.{Stepped-kind, Ready, ahead-in, Steps};
 use record::register;
@@ -44,38 +44,38 @@ fn take_effect(
     setup: Setup,
 ) -> u32
     requires { ⌜ Stepped-kind (now r) ⌝ }
-    ensures { λ n. ⌜ Obeys n (now (registers .exit)) (flags-of (now (marks .exit))) (now (memory .exit)) (now (registers .entry)) (flags-of (now (marks .entry))) ahead (now (r .entry)) (now (memory .entry)) setup ⌝ }
+    ensures { λ n. ⌜ Obeys n (now (registers .exit)) (flags-in (now (marks .exit))) (now (memory .exit)) (now (registers .entry)) (flags-in (now (marks .entry))) ahead (now (r .entry)) (now (memory .entry)) setup ⌝ }
 {
     let kind = r[0];
     if kind < 4 {
-        return data::operate(registers, marks, ahead, r);
+        return data_arms::operate(registers, marks, ahead, r);
     }
     let accesses = (kind == 13) | (kind == 14);
     if accesses {
-        return access::access_one(registers, ahead, r, memory, setup);
+        return access_arms::access_one(registers, ahead, r, memory, setup);
     }
     match kind {
-        4 => data::add_a_number(registers, ahead, r),
-        5 => data::move_a_number(registers, ahead, r),
-        6 => data::operate_unary(registers, ahead, r),
-        7 => data::multiply(registers, marks, ahead, r),
-        8 => data::multiply_long(registers, ahead, r),
-        9 => data::divide(registers, ahead, r),
-        10 => data::saturate(registers, marks, ahead, r),
-        11 => data::set_field(registers, ahead, r),
-        12 => data::extend(registers, ahead, r),
-        15 => access::access_two(registers, ahead, r, memory, setup),
-        16 => access::many::access_many(registers, ahead, r, memory, setup),
+        4 => data_arms::add_a_number(registers, ahead, r),
+        5 => data_arms::move_a_number(registers, ahead, r),
+        6 => data_arms::operate_unary(registers, ahead, r),
+        7 => data_arms::multiply(registers, marks, ahead, r),
+        8 => data_arms::multiply_long(registers, ahead, r),
+        9 => data_arms::divide(registers, ahead, r),
+        10 => data_arms::saturate(registers, marks, ahead, r),
+        11 => data_arms::set_field(registers, ahead, r),
+        12 => data_arms::extend(registers, ahead, r),
+        15 => access_arms::access_two(registers, ahead, r, memory, setup),
+        16 => access_arms::many::access_many(registers, ahead, r, memory, setup),
         17 => {
-            branch::branch_off(registers, ahead, r);
+            branch_arms::branch_off(registers, ahead, r);
             0
         }
-        18 => branch::branch_to_register(registers, ahead, r),
+        18 => branch_arms::branch_to_register(registers, ahead, r),
         19 => {
-            branch::compare_and_branch(registers, ahead, r);
+            branch_arms::compare_and_branch(registers, ahead, r);
             0
         }
-        22 => branch::branch_by_table(registers, ahead, r, memory, setup),
+        22 => branch_arms::branch_by_table(registers, ahead, r, memory, setup),
         _ => {
             lent::put(registers, register::PC, ahead);
             0
@@ -130,7 +130,7 @@ pub fn waiting_after(waiting: Waiting, r: &[u8]) -> Waiting
 // Does the condition that rules a record pass: the first that waits, or a branch's own?
 fn is_passed(marks: &[bool; 5], first: u8, r: &[u8]) -> bool
     requires { ⌜ Stepped-kind (now r) ⌝ }
-    ensures { λ t. ⌜ t ≡ passes (flags-of (now (marks .entry))) (if eqb first none then own-condition (record-of (now (r .entry))) else first) ⌝ }
+    ensures { λ t. ⌜ t ≡ passes (flags-in (now (marks .entry))) (if eqb first none then own-condition (record-of (now (r .entry))) else first) ⌝ }
 {
     if first == Waiting::NONE {
         let kind = r[0];

@@ -1,20 +1,18 @@
 -- The rounds on the machine's parts are the rounds of the definition.
-use Prim.Native.Nat.{ℕ, zero, suc, _+_, _-_, _%_, _^_, _≤_, _<_}
-use mathlib.Core.Bool.{Bool, true, false, true≢false}
+use Prim.Native.Nat.{ℕ, zero, suc, _+_, _-_, _%_, _^_, _≤_}
+use mathlib.Core.Bool.{Bool, true, false}
 use mathlib.Core.List.{List}
 use mathlib.Core.Path.{_≡_, refl, sym, ap, _∙_}
 use native.Mathlib.Omega.{arith}
 use borrow.Author.Tests.{eqb-true, eqb-false, eq-eqb, ne-eqb, lt-ltb, le-ltb}
-use lib.Dec.{eqb, leb, ltb}
+use lib.Dec.{eqb, leb}
 use lib.ListN.{length, getD, take, drop}
 use lib.Seq.{getD-take, getD-drop}
 use Rattle.word.specs.Choice.{if_then_else_}
 use Rattle.word.proofs.Cases.{cases, yes-or-no}
 use Rattle.little.specs.Little.{byte}
-use Rattle.address.specs.Address.{cleared}
-use Rattle.address.proofs.Laws.{cleared-same}
 use Rattle.waiting.specs.declared.Waiting.{Waiting}
-use Rattle.waiting.specs.Waiting.{nothing, same}
+use Rattle.waiting.specs.Waiting.{nothing}
 use Rattle.waiting.proofs.Laws.{same-self}
 use Rattle.record.specs.declared.Record.{Record}
 use Rattle.flow.specs.Flow.{machine-length, way, fills, after}
@@ -28,20 +26,19 @@ use Rattle.reading.specs.Reading.{part, read-one, found-at, read-at}
 use Rattle.reading.proofs.Places.{ahead}
 use Rattle.layout.specs.declared.Point.{Point}
 use Rattle.layout.specs.Layout.{AtAddress, Stands, End, Stray, Met, Onward, AtEnd, Refusal, meets, standing, at-address}
-use Rattle.layout.proofs.Points.{onto, end-place, rises}
+use Rattle.layout.proofs.Points.{onto, end-place}
 use Rattle.layout.proofs.Members.{On, on-found, on-within, stands-on}
-use Rattle.listing.proofs.Accepted.{Accepted, not-stopped, end-waits, on-even}
+use Rattle.listing.proofs.Accepted.{Accepted, not-stopped, end-waits}
 use Rattle.machine.specs.declared.Machine.{Machine}
 use Rattle.machine.specs.Machine.{PC, held, Outcome, keeping}
 use Rattle.machine.specs.Step.{obeyed}
-use Rattle.lent.specs.Lent.{assembled, flags-of, came}
-use Rattle.pace.specs.Pace.{Ready, Steps, ahead-in}
-use Rattle.pace.proofs.Table.{fills-as, Read-so, read-so}
+use Rattle.lent.specs.Lent.{assembled, flags-in, came}
+use Rattle.pace.specs.Pace.{Ready, ahead-in}
+use Rattle.pace.proofs.Table.{fills-as, read-so}
 use Rattle.run.specs.declared.Sight.{Sight}
-use Rattle.run.specs.declared.Sight.the-variants.{AtRecord, AtEnd, AtNone}
-use Rattle.run.specs.Run.{Rehearsal, State, state, Course, Over, Done, agreeing, faced, attempted, round-at, round, over, led-by, continued, used-up, rounds}
-use Rattle.run.specs.Place.{Halting, walks-place}
-use Rattle.run.specs.Code.{seat-at, sight, facing, Fit, parts-of, spot, kind-there, followed, counted, Nowhere, Faces, At, Stepped-so}
+use Rattle.run.specs.declared.Sight.the-variants.{AtEnd}
+use Rattle.run.specs.Run.{Rehearsal, State, agreeing, faced, attempted, round-at, round, over, continued, used-up, rounds}
+use Rattle.run.specs.Code.{sight, Fit, parts-of, spot, kind-there, followed-to, counted, Nowhere, At, Stepped-so}
 use Rattle.run.proofs.Faced.{agreed-record}
 use Rattle.run.proofs.Rounds.{facing-there, step-there}
 use Rattle.run.proofs.Steps.{next-state, stands, q, on, ready, untested, result, next-fit, waits-next, next-at}
@@ -211,10 +208,10 @@ module _ (h : Rehearsal) (ok : Accepted (h .listing) (h .base)) (s : State) (fit
   what = rw here at (met .what)
 
   module _ (number : ℕ) (registers : List ℕ) (marks : List Bool) (memory : List ℕ)
-      (steps : keeping (came number registers (flags-of marks) (m .waiting) (after (record-of bytes) (m .waiting))) memory
+      (steps : keeping (came number registers (flags-in marks) (m .waiting) (after (record-of bytes) (m .waiting))) memory
       ≡ obeyed m (record-of bytes) (s .memory) (h .setup)) where
     outcome : step-there h s (p .place)
-        ≡ keeping (came number registers (flags-of marks) (m .waiting) (after (record-of bytes) (m .waiting))) memory
+        ≡ keeping (came number registers (flags-in marks) (m .waiting) (after (record-of bytes) (m .waiting))) memory
     outcome = untested h ok s fit r p e ∙ (ap (λ (x : Record). obeyed m x (s .memory) (h .setup)) what ∙ sym steps)
 
     numbered : step-there h s (p .place) .answer .number ≡ number
@@ -226,7 +223,7 @@ module _ (h : Rehearsal) (ok : Accepted (h .listing) (h .base)) (s : State) (fit
     refused-here n left =
         let o = step-there h s (p .place) in
         let given = result h ok s fit r p e .as-given (λ z. n (sym numbered ∙ z)) in
-        let back : assembled registers (flags-of marks) (m .waiting) ≡ m =
+        let back : assembled registers (flags-in marks) (m .waiting) ≡ m =
         rw (ne-eqb number 0 n) at (sym (ap (λ (x : Outcome). x .answer .machine) outcome) ∙ given .0)
         in
         let kept : memory ≡ s .memory = sym (ap (λ (x : Outcome). x .memory) outcome) ∙ given .1 in
@@ -241,7 +238,7 @@ module _ (h : Rehearsal) (ok : Accepted (h .listing) (h .base)) (s : State) (fit
       waits = after (record-of bytes) (m .waiting)
 
       abbrev x : Machine
-      x = assembled registers (flags-of marks) waits
+      x = assembled registers (flags-in marks) waits
 
       fine : step-there h s (p .place) .answer .number ≡ 0
       fine = numbered ∙ done
@@ -262,9 +259,9 @@ module _ (h : Rehearsal) (ok : Accepted (h .listing) (h .base)) (s : State) (fit
       waits-there = ap (λ (t : State). t .machine .waiting) (sym to-state) ∙ waits-next h ok s fit r p e fine
 
       at-next : (ahead place' : ℕ) → ahead ≡ ahead-in (m .registers) bytes
-          → place' ≡ followed registers waits ahead (place + listing-length kind) (h .listing) (h .base)
+          → place' ≡ followed-to registers waits ahead (place + listing-length kind) (h .listing) (h .base)
           → At h x place' (kind-there (h .listing) place')
-      unfolding followed faced held
+      unfolding followed-to faced held
       at-next ahead place' a f = cases (yes-or-no (eqb to ahead)) onward elsewhere
         where
           to : ℕ
@@ -282,7 +279,7 @@ module _ (h : Rehearsal) (ok : Accepted (h .listing) (h .base)) (s : State) (fit
               at-spot h ok x place' ((rw t at f) ∙ seen)
 
       pub done-so : (ahead to kind' : ℕ) (waits' : Waiting) → waits' ≡ waits → ahead ≡ ahead-in (m .registers) bytes
-          → to ≡ followed registers waits' ahead (place + listing-length kind) (h .listing) (h .base) → kind' ≡ kind-there (h .listing) to
+          → to ≡ followed-to registers waits' ahead (place + listing-length kind) (h .listing) (h .base) → kind' ≡ kind-there (h .listing) to
           → Stepped-so h s place (record { number = 0; place = to; kind = kind'; waiting = waits' }) (parts-of registers marks waits' memory)
       done-so ahead to kind' waits' w a f k =
           let there = at-next ahead to a (rw w at f) in

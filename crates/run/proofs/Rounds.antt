@@ -1,35 +1,30 @@
 -- What the code sees is what a machine faces, and a fresh run and a resume are what it does.
-use Prim.Native.Nat.{ℕ, suc, _+_, _-_, _≤_, _<_}
-use mathlib.Core.Path.{_≡_, refl, sym, ap, _∙_}
-use mathlib.Core.Bool.{Bool, true, false, false≢true, not, _&&_}
+use Prim.Native.Nat.{ℕ, _+_, _-_}
+use mathlib.Core.Path.{_≡_, refl}
+use mathlib.Core.Bool.{Bool, true, false, not, _&&_}
 use mathlib.Core.List.{List}
 use native.Mathlib.Omega.{arith}
-use borrow.Author.Tests.{eqb-true, eqb-false, eq-eqb, ne-eqb, lt-ltb}
-use lib.Dec.{eqb, ltb}
+use borrow.Author.Tests.{eq-eqb, ne-eqb}
+use lib.Dec.{eqb}
 use lib.ListN.{length}
 use Rattle.word.specs.Choice.{if_then_else_}
 use Rattle.waiting.specs.declared.Waiting.{Waiting}
 use Rattle.waiting.specs.Waiting.{nothing, same}
 use Rattle.reading.specs.declared.Place.{Place}
 use Rattle.reading.specs.Reading.{part}
-use Rattle.record.specs.declared.Record.{Record}
 use Rattle.setup.specs.Setup.{fits}
-use Rattle.layout.specs.declared.Point.{Point}
 use Rattle.layout.specs.Layout.{AtAddress, Stands, End, Stray, at-address}
 use Rattle.layout.proofs.Points.{onto}
 use Rattle.layout.proofs.Members.{stands-on}
 use Rattle.listing.specs.Check.{checked}
 use Rattle.machine.specs.Machine.{PC, held, good, Outcome}
-use Rattle.machine.specs.declared.Machine.{Machine}
 use Rattle.machine.specs.Step.{stepped}
-use Rattle.paper.proofs.Demands.{refused-as-given}
 use Rattle.run.specs.declared.Sight.{Sight}
 use Rattle.run.specs.declared.Sight.the-variants.{AtRecord, AtEnd, AtNone}
 use Rattle.run.specs.declared.Stored.{Stored}
 use Rattle.run.specs.declared.Stored.the-variants.{None}
 use Rattle.run.specs.declared.seat.Seat.{Seat}
-use Rattle.run.specs.declared.Halted.{Halted}
-use Rattle.run.specs.Run.{Rehearsal, State, state, Course, Round, Over, Done, agreeing, faced, attempted, round-at, round, over, continued, used-up, rounds, run-of, Ending, ending, outcome}
+use Rattle.run.specs.Run.{Rehearsal, State, Course, agreeing, faced, over, used-up, rounds, run-of, Ending, ending, outcome}
 use Rattle.run.specs.Place.{place-in, walks-place, same-place, begins, journey, fresh-run, resumed, Halting, halting, halt}
 use Rattle.run.specs.Code.{due-at, seat, seat-at, sight, seen-from, facing, used-up-at, counted, arrived, proceeded}
 

@@ -1,40 +1,32 @@
 -- The step of a record that is faced in an accepted listing: none of its tests for 1 to 4 fires, and it leaves the machine fit for the next.
-use Prim.Native.Nat.{ℕ, _+_, _%_, _^_, _≤_}
-use mathlib.Core.Bool.{true, false}
+use Prim.Native.Nat.{ℕ, _+_, _%_, _^_}
 use mathlib.Core.List.{List}
-use mathlib.Core.Path.{_≡_, refl, sym, ap, _∙_}
+use mathlib.Core.Path.{_≡_, sym, ap, _∙_}
 use native.Mathlib.Omega.{arith}
 use borrow.Author.Tests.{eq-eqb, eqb-false}
-use lib.Dec.{eqb}
-use lib.ListN.{length}
-use Rattle.address.specs.Address.{cleared}
-use Rattle.address.proofs.Laws.{cleared-same}
 use Rattle.little.specs.Little.{byte}
-use Rattle.waiting.specs.Waiting.{none, nothing, waiting-count}
+use Rattle.waiting.specs.Waiting.{none, waiting-count}
 use Rattle.waiting.proofs.Good.{is-good}
 use Rattle.record.specs.declared.Record.{Record}
-use Rattle.flow.specs.Flow.{machine-length, way, fills, misplaced, after}
+use Rattle.flow.specs.Flow.{machine-length, after}
 use Rattle.reading.specs.declared.Read.the-variants.{Is}
 use Rattle.reading.specs.Reading.{part, read-one}
 use Rattle.reading.proofs.Places.{ahead}
-use Rattle.kinds.specs.Kinds.{record-of}
 use Rattle.judge.specs.Judge.{refusal}
 use Rattle.judge.proofs.Laws.{not-refused}
-use Rattle.setup.specs.Setup.{fits}
 use Rattle.setup.proofs.Laws.{fits-as-long}
 use Rattle.layout.specs.declared.Point.{Point}
 use Rattle.layout.specs.Layout.{Stands, at-address}
 use Rattle.layout.proofs.Points.{onto, next-address}
 use Rattle.layout.proofs.Members.{On, Standing, stands-on, next-on}
 use Rattle.layout.proofs.Blocks.{unrefused, waits-after, on-good, nothing-waits}
-use Rattle.listing.proofs.Accepted.{Accepted, on-low, on-even}
+use Rattle.listing.proofs.Accepted.{Accepted, on-low}
 use Rattle.machine.specs.declared.Machine.{Machine}
-use Rattle.machine.specs.Machine.{PC, held, good, Outcome}
+use Rattle.machine.specs.Machine.{PC, held}
 use Rattle.machine.specs.Step.{considered, stepped, obeyed}
 use Rattle.paper.proofs.Registers.{good-parts}
 use Rattle.paper.proofs.Came.{Led, Result, step-result}
-use Rattle.lent.specs.Lent.{Sound}
-use Rattle.pace.specs.Pace.{Stepped-kind, Ready}
+use Rattle.pace.specs.Pace.{Ready}
 use Rattle.pace.proofs.Table.{fills-as, Read-so, read-so}
 use Rattle.run.specs.Run.{Rehearsal, State, state, faced}
 use Rattle.run.specs.Code.{Fit}

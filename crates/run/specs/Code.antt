@@ -1,6 +1,6 @@
 -- For the code alone: where its machine is, and what its rounds keep of a run, where the definition keeps the records too.
 use Prim.Native.Nat.{ℕ, suc, _+_, _<_}
-use mathlib.Core.Bool.{Bool, true, false, _&&_, _||_}
+use mathlib.Core.Bool.{Bool, true, _&&_, _||_}
 use mathlib.Core.List.{List, List·Memᴰ}
 use mathlib.Core.Path.{_≡_}
 use lib.Dec.{eqb, ltb}
@@ -26,7 +26,7 @@ use Rattle.run.specs.declared.Stored.the-variants.{In, None}
 use Rattle.run.specs.declared.seat.Seat.{Seat}
 use Rattle.run.specs.declared.race.Raced.{Raced}
 use Rattle.run.specs.declared.race.Stride.{Stride}
-use Rattle.lent.specs.Lent.{assembled, flags-of}
+use Rattle.lent.specs.Lent.{assembled, flags-in}
 use Rattle.run.specs.Run.{Rehearsal, rehearsal, State, state, Course, faced, over, used-up, rounds}
 use Rattle.run.specs.Place.{place-in, walks-place, same-place, Journey, journey, Halting, halting}
 
@@ -106,7 +106,7 @@ pub record Fit (h : Rehearsal) (s : State) : Type 0 where
   pub memory-fits : fits (h .setup) (s .memory) ≡ true
 
 abbrev pub parts-of : List ℕ → List Bool → Waiting → List ℕ → State
-parts-of registers marks waiting memory = state (assembled registers (flags-of marks) waiting) memory
+parts-of registers marks waiting memory = state (assembled registers (flags-in marks) waiting) memory
 
 -- the place of the record that is seen; the listing's length where there is none
 unfoldable pub spot : Sight → ℕ → ℕ
@@ -119,8 +119,8 @@ unfoldable pub kind-there : List ℕ → ℕ → ℕ
 kind-there listing place = if ltb place (length listing) then byte listing place else 0x17
 
 -- the place after a step, `next` being that of the next record, which stands at `ahead`
-unfoldable pub followed : List ℕ → Waiting → ℕ → ℕ → List ℕ → ℕ → ℕ
-followed registers waiting ahead next listing base =
+unfoldable pub followed-to : List ℕ → Waiting → ℕ → ℕ → List ℕ → ℕ → ℕ
+followed-to registers waiting ahead next listing base =
     let to = getD registers PC 0 in
     if eqb to ahead then next else spot (facing (seat-at listing base to) waiting (length listing)) (length listing)
 
@@ -147,7 +147,7 @@ pub record Starts (registers : List ℕ) (marks : List Bool) (waiting : Waiting)
     (setup : Setup) : Type 0 where
   pub fit : Fit (rehearsal listing base setup) (parts-of registers marks waiting memory)
   pub at : let h = rehearsal listing base setup in
-      place ≡ spot (sight (faced h (assembled registers (flags-of marks) waiting))) (length listing)
+      place ≡ spot (sight (faced h (assembled registers (flags-in marks) waiting))) (length listing)
 
 -- the outcome of a run from here on, where so many steps are done already
 unfoldable pub counted : Rehearsal → ℕ → Course → Halting
@@ -165,11 +165,11 @@ counted h count c =
 pub record Stands-at (registers : List ℕ) (marks : List Bool) (waiting : Waiting) (place kind : ℕ) (listing : List ℕ) (base : ℕ)
     (memory : List ℕ) (setup : Setup) : Type 0 where
   pub fit : Fit (rehearsal listing base setup) (parts-of registers marks waiting memory)
-  pub at : At (rehearsal listing base setup) (assembled registers (flags-of marks) waiting) place kind
+  pub at : At (rehearsal listing base setup) (assembled registers (flags-in marks) waiting) place kind
   pub stepped : kind ≡ 0x17 → ⊥
 
 -- after a step that was done: the run goes on from there
-pub record Goes-on (h : Rehearsal) (before after : State) (place kind : ℕ) : Type 0 where
+pub record Led-on (h : Rehearsal) (before after : State) (place kind : ℕ) : Type 0 where
   pub fit : Fit h after
   pub at : At h (after .machine) place kind
   pub on : (count left : ℕ) → counted h count (rounds (suc left) h before) ≡ counted h (count + 1) (rounds left h after)
@@ -177,7 +177,7 @@ pub record Goes-on (h : Rehearsal) (before after : State) (place kind : ℕ) : T
 -- the step of the record at a place: refused, and all is as it was; or done
 pub record Stepped-so (h : Rehearsal) (before : State) (place : ℕ) (r : Stride) (after : State) : Type 0 where
   pub refused : (r .number ≡ 0 → ⊥) → (left : ℕ) → rounds (suc left) h before ≡ over (r .number) place after
-  pub done : r .number ≡ 0 → Goes-on h before after (r .place) (r .kind)
+  pub done : r .number ≡ 0 → Led-on h before after (r .place) (r .kind)
 
 abbrev pub Strode : Stride → List ℕ → List Bool → List ℕ → List ℕ → List Bool → Waiting → ℕ → List ℕ → List ℕ → ℕ → Setup → Type 0
 Strode r after marks memory before were waiting place bytes listing base setup =

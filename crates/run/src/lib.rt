@@ -7,7 +7,7 @@ ghost use Rattle.landing.specs.Code.{table};
 ghost use Rattle.listing.specs.Check.{checked};
 ghost use Rattle.setup.specs.Setup.{fits};
 ghost use Rattle.machine.specs.Machine.{PC, held, good};
-ghost use Rattle.lent.specs.Lent.{assembled, flags-of};
+ghost use Rattle.lent.specs.Lent.{assembled, flags-in};
 ghost use Rattle.run.specs.Run.{rehearsal, state, rounds, run-of, ending, outcome};
 ghost use Rattle.run.specs.Place.{same-place, fresh-run, resumed, halting, halt};
 ghost use Rattle.run.specs.Code.{seat, seat-at, Known, seen-from, facing, used-up-at, spot, arrived, set-out, proceeded};
@@ -248,7 +248,7 @@ fn repeat(
 }
 
 fn assemble(registers: [u32; 16], marks: [bool; 5], waiting: Waiting) -> Machine
-    ensures { λ m. ⌜ m ≡ assembled registers (flags-of marks) waiting ⌝ }
+    ensures { λ m. ⌜ m ≡ assembled registers (flags-in marks) waiting ⌝ }
 {
     let flags = Flags {
         n: marks[0],

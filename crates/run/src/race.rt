@@ -3,7 +3,7 @@
 
 ghost use mathlib.Core.Path.{_≡_};
 ghost use Rattle.landing.specs.Code.{table};
-ghost use Rattle.run.specs.Code.{Known, Starts, Raced-to, Stands-at, Strode, kind-there, followed};
+ghost use Rattle.run.specs.Code.{Known, Starts, Raced-to, Stands-at, Strode, kind-there, followed-to};
 use crate::seat;
 use setup::Setup;
 use waiting::Waiting;
@@ -164,7 +164,7 @@ fn follow(
     entries: usize,
 ) -> usize
     requires { ⌜ Known (now listing) base (table (now addresses) (now places) entries) ⌝ }
-    ensures { λ r. ⌜ r ≡ followed (now (registers .entry)) waiting ahead next (now (listing .entry)) base ⌝ }
+    ensures { λ r. ⌜ r ≡ followed-to (now (registers .entry)) waiting ahead next (now (listing .entry)) base ⌝ }
 {
     let to = registers[15];
     if to == ahead {

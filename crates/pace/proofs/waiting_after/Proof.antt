@@ -1,13 +1,8 @@
-use mathlib.Core.Bool.{true, false}
-use mathlib.Core.Path.{_≡_, refl, sym, _∙_, ap}
 use native.Mathlib.Omega.{arith}
 use borrow.Author.Needs.{needs}
 use borrow.Author.Tests.{ne-eqb}
-use lib.Dec.{eqb}
-use lib.ListN.{length}
 use Rattle.little.specs.Little.{byte}
 use Rattle.waiting.specs.Waiting.{dropped}
-use Rattle.kinds.specs.Kinds.{listing-length}
 use Rattle.pace.proofs.Table.{after-as, there, block-there}
 use Rattle.pace.proofs.waiting_after.Statement.{statement}
 use Rattle.pace.proofs.waiting_after.Tie as tie

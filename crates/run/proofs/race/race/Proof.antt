@@ -1,11 +1,10 @@
-use Prim.Native.Nat.{ℕ, suc, _+_, _-_, _≤_}
+use Prim.Native.Nat.{suc, _+_, _-_, _≤_}
 use mathlib.Core.Path.{_≡_, refl, sym, ap, _∙_}
 use native.Mathlib.Omega.{arith}
 use borrow.Author.Needs.{needs}
 use borrow.Author.Tests.{ne-eqb}
 use lib.ListN.{length}
-use Rattle.lent.specs.Lent.{assembled, flags-of}
-use Rattle.run.specs.Run.{rehearsal, Course, rounds}
+use Rattle.run.specs.Run.{rehearsal, rounds}
 use Rattle.run.specs.Code.{Fit, parts-of, At, counted}
 use Rattle.run.proofs.Racing.{at-spot, over-now, none-left}
 use Rattle.run.proofs.race.race.Statement.{statement}

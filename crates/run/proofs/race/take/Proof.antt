@@ -1,14 +1,11 @@
-use Prim.Native.Nat.{ℕ, _+_, _-_, _≤_}
-use mathlib.Core.List.{List}
-use mathlib.Core.Path.{_≡_, refl, sym, ap, _∙_}
+use Prim.Native.Nat.{_+_, _-_, _≤_}
+use mathlib.Core.Path.{_≡_}
 use native.Mathlib.Omega.{arith}
 use borrow.Author.Needs.{needs}
 use lib.ListN.{length, take, drop}
 use Rattle.reading.specs.Reading.{part}
 use Rattle.listing.proofs.Accepted.{parts}
 use Rattle.pace.specs.Pace.{Ready}
-use Rattle.run.specs.Run.{rehearsal}
-use Rattle.run.specs.Code.{parts-of}
 use Rattle.run.proofs.Racing.{inside, taken, ready-here, refused-so, done-so}
 use Rattle.run.proofs.race.take.Statement.{statement}
 use Rattle.run.proofs.race.take.Tie as tie
