@@ -27,7 +27,8 @@ use Rattle.machine.specs.Step.{considered, stepped, obeyed}
 use Rattle.paper.proofs.Registers.{good-parts}
 use Rattle.paper.proofs.Came.{Led, Result, step-result}
 use Rattle.pace.specs.Pace.{Ready}
-use Rattle.pace.proofs.Table.{fills-as, Read-so, read-so}
+use Rattle.pace.proofs.Table.{fills-as}
+use Rattle.pace.proofs.Lengths.{Read-so, read-so}
 use Rattle.run.specs.Run.{Rehearsal, State, state, faced}
 use Rattle.run.specs.Code.{Fit}
 use Rattle.run.proofs.Faced.{agreed-record}

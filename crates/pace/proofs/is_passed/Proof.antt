@@ -3,7 +3,8 @@ use borrow.Author.Needs.{needs}
 use borrow.Author.Tests.{ne-eqb}
 use Rattle.little.specs.Little.{byte}
 use Rattle.flags.specs.Flags.{passes}
-use Rattle.pace.proofs.Table.{own-as, there}
+use Rattle.pace.proofs.Table.{own-as}
+use Rattle.pace.proofs.Lengths.{there}
 use Rattle.pace.proofs.is_passed.Statement.{statement}
 use Rattle.pace.proofs.is_passed.Tie as tie
 

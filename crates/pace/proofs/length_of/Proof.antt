@@ -6,7 +6,8 @@ use borrow.Author.Tests.{eqb-false}
 use lib.Dec.{eqb}
 use Rattle.word.proofs.Cases.{neither}
 use Rattle.little.specs.Little.{byte}
-use Rattle.pace.proofs.Table.{length-as, there}
+use Rattle.pace.proofs.Table.{length-as}
+use Rattle.pace.proofs.Lengths.{there}
 use Rattle.pace.proofs.length_of.Statement.{statement}
 use Rattle.pace.proofs.length_of.Tie as tie
 

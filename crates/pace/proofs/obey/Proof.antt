@@ -4,7 +4,7 @@ use denote.Ref.{now}
 use Rattle.lent.specs.Lent.{flags-in}
 use Rattle.machine.specs.Machine.{held, written, with-waiting, ruling, condition-passes, advanced, skipped, onward, done}
 use Rattle.machine.specs.Step.{obeyed}
-use Rattle.pace.proofs.Table.{skipped-waits}
+use Rattle.pace.proofs.Passing.{skipped-waits}
 use Rattle.pace.proofs.obey.Statement.{statement}
 use Rattle.pace.proofs.obey.Tie as tie
 

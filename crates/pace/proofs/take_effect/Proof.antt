@@ -9,7 +9,8 @@ use Rattle.word.proofs.Cases.{cases, either-true, neither}
 use Rattle.little.specs.Little.{byte}
 use Rattle.lent.specs.Lent.{flags-in}
 use Rattle.machine.specs.Machine.{done}
-use Rattle.pace.proofs.Table.{there, only-on}
+use Rattle.pace.proofs.Lengths.{there}
+use Rattle.pace.proofs.Passing.{only-on}
 use Rattle.pace.proofs.take_effect.Statement.{statement}
 use Rattle.pace.proofs.take_effect.Tie as tie
 

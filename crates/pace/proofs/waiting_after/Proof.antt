@@ -3,7 +3,8 @@ use borrow.Author.Needs.{needs}
 use borrow.Author.Tests.{ne-eqb}
 use Rattle.little.specs.Little.{byte}
 use Rattle.waiting.specs.Waiting.{dropped}
-use Rattle.pace.proofs.Table.{after-as, there, block-there}
+use Rattle.pace.proofs.Table.{after-as}
+use Rattle.pace.proofs.Lengths.{there, block-there}
 use Rattle.pace.proofs.waiting_after.Statement.{statement}
 use Rattle.pace.proofs.waiting_after.Tie as tie
 

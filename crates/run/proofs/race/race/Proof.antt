@@ -6,7 +6,8 @@ use borrow.Author.Tests.{ne-eqb}
 use lib.ListN.{length}
 use Rattle.run.specs.Run.{rehearsal, rounds}
 use Rattle.run.specs.Code.{Fit, parts-of, At, counted}
-use Rattle.run.proofs.Racing.{at-spot, over-now, none-left}
+use Rattle.run.proofs.Spots.{at-spot}
+use Rattle.run.proofs.Racing.{over-now, none-left}
 use Rattle.run.proofs.race.race.Statement.{statement}
 use Rattle.run.proofs.race.race.Tie as tie
 
