@@ -19,10 +19,9 @@ use Rattle.lent.specs.Lent.{assembled, put_in, steady_in, Formed}
 use Rattle.access_arms.specs.declared.Reach.{Reach}
 
 -- a record of one of the two kinds
-pub record Accesses (kind : ℕ) (r : List ℕ) : Type 0 where
-  pub is : kind ≡ byte r 0
-  pub least : 13 ≤ kind
-  pub most : kind ≤ 14
+pub record Accesses (r : List ℕ) : Type 0 where
+  pub least : 13 ≤ byte r 0
+  pub most : byte r 0 ≤ 14
   pub sound : Formed r
 
 -- the base written back, unless the access is plain

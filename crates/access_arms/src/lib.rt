@@ -30,26 +30,25 @@ pub struct Reach {
 pub fn access_one(
     registers: &mut [u32; 16],
     ahead: u32,
-    kind: u8,
     r: &[u8],
     memory: &mut [u8],
     setup: Setup,
 ) -> u32
-    requires { Accesses kind r.now }
+    requires { Accesses r.now }
     ensures { ObeysMoving result registers.new memory.new registers.old ahead r.now memory.old setup }
 {
-    let d = reach_of(registers, kind, r);
+    let d = reach_of(registers, r);
     let op = d.op;
     do_access(
         registers, ahead, d.plain, d.rn, d.to, op, d.rt, d.address, memory, setup,
     )
 }
 
-fn reach_of(registers: &[u32; 16], kind: u8, r: &[u8]) -> Reach
-    requires { Accesses kind r.now }
+fn reach_of(registers: &[u32; 16], r: &[u8]) -> Reach
+    requires { Accesses r.now }
     ensures { Reaches registers.now r.now result }
 {
-    if kind == 13 {
+    if r[0] == 13 {
         return offset_reach_of(registers, r);
     }
     indexed_reach_of(registers, r)

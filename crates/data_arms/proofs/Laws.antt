@@ -29,7 +29,12 @@ use Rattle.machine.specs.Step.{effect}
 use Rattle.lent.specs.Lent.{assembled, put_in, operand_in, Settled, Obeys}
 use Rattle.lent.proofs.Laws.{settled_fine, settled_back}
 use Rattle.data_arms.specs.declared.Operands.{Operands}
-use Rattle.data_arms.specs.Data.{Prepared}
+use Rattle.data_arms.specs.Data.{Operates, Prepared}
+
+-- a record is not empty
+pub some_long : (r : List ℕ) → Operates r → 0 < length r
+some_long [] k = omega (arith, k.least)
+some_long (x ∷ xs) k = omega arith
 
 -- ---- a record that settles
 -- at registers e and flags f, the record goes on to registers n and flags g, unless R13 came out as no multiple of 4

@@ -13,10 +13,9 @@ use Rattle.lent.specs.Lent.{assembled, Formed}
 use Rattle.data_arms.specs.declared.Operands.{Operands}
 
 -- a record of one of the three kinds
-pub record Operates (kind : ℕ) (r : List ℕ) : Type 0 where
-  pub is : kind ≡ byte r 0
-  pub least : 1 ≤ kind
-  pub most : kind ≤ 3
+pub record Operates (r : List ℕ) : Type 0 where
+  pub least : 1 ≤ byte r 0
+  pub most : byte r 0 ≤ 3
   pub sound : Formed r
 
 -- the operands of a record: it does what `data_done` says of them

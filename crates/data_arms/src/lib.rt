@@ -1,10 +1,9 @@
 // Kinds 01 to 0C in a run: registers and flags are lent, and the fields come from the bytes of a record that the check has passed.
 
-ghost use Rattle.std.specs.Prelude.{◌≡◌, ◌<◌, ltb};
+ghost use Rattle.std.specs.Prelude.{◌<◌, ltb};
 ghost use Rattle.lent.specs.Lent.{flags_in, put_in, Settled, OfKind, ObeysOn, ObeysMarking};
 ghost use Rattle.word.specs.Choice.{if◌then◌else◌};
 ghost use Rattle.record.specs.Op.{data_code};
-ghost use Rattle.operate.specs.Operate.{logical, operated};
 ghost use Rattle.machine.specs.Machine.{PC};
 ghost use Rattle.data_arms.specs.Data.{Operates, Prepared};
 
@@ -12,7 +11,6 @@ use lent::bytes;
 use product::Long;
 use record::op::DataOp;
 use shift::Shifted;
-use sum::Sum;
 
 #[derive(Drop)]
 pub struct Operands {
@@ -24,61 +22,21 @@ pub struct Operands {
 }
 
 // Kinds 01, 02 and 03.
-pub fn operate(
-    registers: &mut [u32; 16],
-    marks: &mut [bool; 5],
-    ahead: u32,
-    kind: u8,
-    r: &[u8],
-) -> u32
-    requires { Operates kind r.now }
+pub fn operate(registers: &mut [u32; 16], marks: &mut [bool; 5], ahead: u32, r: &[u8]) -> u32
+    requires { Operates r.now }
     ensures { ObeysMarking result registers.new marks.new registers.old marks.old ahead r.now }
 {
-    let o = operands_of(registers, marks, kind, r);
+    let o = operands_of(registers, marks, r);
     let op = o.op;
     let carry = marks[2];
     let overflow = marks[3];
-    let result = result_of(op, o.x, o.y, carry, overflow);
+    let result = operate::operate(op, o.x, o.y, carry, overflow);
     let fine = settle_data(registers, ahead, op, o.rd, result.value);
     if fine {
         lent::mark(marks, o.s, result);
         return 0;
     }
     7
-}
-
-// What `operate::operate` gives, which the lone step calls too: a function that is called here alone is put in its place by the compiler.
-fn result_of(op: DataOp, x: u32, y: Shifted, carry: bool, overflow: bool) -> Sum
-    ensures { result ≡ operated op x y carry overflow }
-{
-    match op {
-        DataOp::Add => sum::add_with_carry(x, y.value, false),
-        DataOp::Adc => sum::add_with_carry(x, y.value, carry),
-        DataOp::Sub => sum::subtract_with_carry(x, y.value, true),
-        DataOp::Sbc => sum::subtract_with_carry(x, y.value, carry),
-        DataOp::Rsb => sum::subtract_with_carry(y.value, x, true),
-        DataOp::And => logical_of(logic::and(x, y.value), y, overflow),
-        DataOp::Orr => logical_of(logic::orr(x, y.value), y, overflow),
-        DataOp::Eor => logical_of(logic::eor(x, y.value), y, overflow),
-        DataOp::Bic => logical_of(logic::bic(x, y.value), y, overflow),
-        DataOp::Orn => logical_of(logic::orn(x, y.value), y, overflow),
-        DataOp::Mov => logical_of(y.value, y, overflow),
-        DataOp::Mvn => logical_of(logic::mvn(y.value), y, overflow),
-        DataOp::Cmp => sum::subtract_with_carry(x, y.value, true),
-        DataOp::Cmn => sum::add_with_carry(x, y.value, false),
-        DataOp::Tst => logical_of(logic::and(x, y.value), y, overflow),
-        DataOp::Teq => logical_of(logic::eor(x, y.value), y, overflow),
-    }
-}
-
-fn logical_of(value: u32, y: Shifted, overflow: bool) -> Sum
-    ensures { result ≡ logical value y overflow }
-{
-    Sum {
-        value,
-        carry: y.carry,
-        overflow,
-    }
 }
 
 // CMP, CMN, TST and TEQ put nothing in a register.
@@ -93,10 +51,11 @@ fn settle_data(registers: &mut [u32; 16], ahead: u32, op: DataOp, rd: u8, value:
     lent::settle_none(registers, ahead)
 }
 
-fn operands_of(registers: &[u32; 16], marks: &[bool; 5], kind: u8, r: &[u8]) -> Operands
-    requires { Operates kind r.now }
+fn operands_of(registers: &[u32; 16], marks: &[bool; 5], r: &[u8]) -> Operands
+    requires { Operates r.now }
     ensures { Prepared registers.now (flags_in marks.now) r.now result }
 {
+    let kind = r[0];
     if kind == 1 {
         return shifted_operands_of(registers, marks, r);
     }

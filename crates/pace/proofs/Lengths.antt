@@ -12,7 +12,7 @@ use Rattle.reading.specs.declared.Read.TheVariants.{Is, Refused}
 use Rattle.reading.specs.Reading.{named, read_one}
 use Rattle.reading.proofs.Places.{read_whole}
 use Rattle.lent.specs.Lent.{Formed}
-use Rattle.pace.specs.Pace.{SteppedKind, LowKind}
+use Rattle.pace.specs.Pace.{SteppedKind}
 use Rattle.pace.proofs.Table.{Rows, entry}
 
 -- ---- how many bytes there are
@@ -35,9 +35,6 @@ there r k =
     let e = long_enough (byte r 0) k.least k.most in
     let w = k.sound.whole in
     (omega arith, λ n. let f = e.1 n in omega arith)
-
-pub stepped : (kind : ℕ) (r : List ℕ) → LowKind kind r → SteppedKind r
-stepped kind r k = record { least = omega (arith, k.is, k.least); most = omega (arith, k.is, k.most); sound = k.sound }
 
 -- a block has three bytes after the form's
 pub block_there : (r : List ℕ) → SteppedKind r → byte r 0 ≡ 20 → 5 ≤ length r

@@ -1,29 +1,20 @@
 -- For the code of a run: the step of a record that the check has passed, on the machine's parts. Order 13: none of the tests that the check
 -- has made is made again.
 use Rattle.std.specs.Prelude.{◌≡◌, ℕ, ◌+◌, ◌%◌, ◌^◌, ◌≤◌, Bool, false, List, slice_index}
-use Rattle.word.specs.Choice.{if◌then◌else◌}
 use Rattle.little.specs.Little.{byte}
-use Rattle.flags.specs.declared.Flags.{Flags}
 use Rattle.waiting.specs.declared.Waiting.{Waiting}
 use Rattle.waiting.specs.Waiting.{none, nothing, waiting_count}
 use Rattle.flow.specs.Flow.{machine_length, misplaced, after}
 use Rattle.kinds.specs.Kinds.{record_of}
 use Rattle.setup.specs.declared.Setup.{Setup}
-use Rattle.machine.specs.Machine.{PC, done, keeping}
-use Rattle.machine.specs.Step.{effect, obeyed}
-use Rattle.lent.specs.Lent.{flags_in, assembled, put_in, came, Formed}
+use Rattle.machine.specs.Machine.{PC, keeping}
+use Rattle.machine.specs.Step.{obeyed}
+use Rattle.lent.specs.Lent.{flags_in, assembled, came, Formed}
 
 -- bytes that begin with a record that is stepped: a filler is not
 pub record SteppedKind (r : List ℕ) : Type 0 where
   pub least : 1 ≤ byte r 0
   pub most : byte r 0 ≤ 22
-  pub sound : Formed r
-
--- of kinds 01 to 13
-pub record LowKind (kind : ℕ) (r : List ℕ) : Type 0 where
-  pub is : kind ≡ byte r 0
-  pub least : 1 ≤ kind
-  pub most : kind ≤ 19
   pub sound : Formed r
 
 -- where these conditions wait, 4 is not given; without a first there are none
@@ -35,23 +26,6 @@ pub record Ready (r : List ℕ) (waiting : Waiting) : Type 0 where
 -- the address of the next record
 abbrev pub ahead_in : List ℕ → List ℕ → ℕ
 ahead_in registers r = (slice_index registers PC + machine_length (record_of r)) % 2 ^ 32
-
--- what a record leaves where its condition passes by this test, or doesn't
-abbrev pub ObeysIf : Bool → ℕ → List ℕ → Flags → List ℕ → List ℕ → Flags → ℕ → List ℕ → List ℕ → Setup → Type 0
-ObeysIf passed number after_it flags memory before were ahead r bytes setup =
-    (w v : Waiting)
-    → let next = assembled (put_in before PC ahead) were v in
-    keeping (came number after_it flags w v) memory
-    ≡ (if passed then effect (assembled before were w) next (record_of r) bytes setup else keeping (done next) bytes)
-
--- of a branch, which is never refused; of an arm that writes no flags and no memory
-abbrev pub BranchesIf : Bool → List ℕ → List ℕ → ℕ → List ℕ → Type 0
-BranchesIf passed after_it before ahead r =
-    (f : Flags) (bytes : List ℕ) (setup : Setup) → ObeysIf passed 0 after_it f bytes before f ahead r bytes setup
-
-abbrev pub PassesBy : Bool → ℕ → List ℕ → List ℕ → ℕ → List ℕ → List ℕ → Setup → Type 0
-PassesBy passed number after_it before ahead r bytes setup =
-    (f : Flags) → ObeysIf passed number after_it f bytes before f ahead r bytes setup
 
 -- what a step leaves of the parts is what `obeyed` says of the machine that they make
 abbrev pub Steps : ℕ → List ℕ → List Bool → List ℕ → List ℕ → List Bool → Waiting → List ℕ → List ℕ → Setup → Type 0

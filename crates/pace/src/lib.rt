@@ -1,39 +1,58 @@
 // One step of a run, on the machine's parts.
 
-ghost use Rattle.std.specs.Prelude.{◌≡◌, ◌<◌, ◌≤◌, true};
+ghost use Rattle.std.specs.Prelude.{◌≡◌, nat_eq};
 ghost use Rattle.word.specs.Choice.{if◌then◌else◌};
-ghost use Rattle.little.specs.Little.{byte};
 ghost use Rattle.flags.specs.Flags.{passes};
+ghost use Rattle.waiting.specs.Waiting.{none};
 ghost use Rattle.flow.specs.Flow.{form_length, machine_length, after, own_condition};
-ghost use Rattle.lent.specs.Lent.{flags_in};
+ghost use Rattle.lent.specs.Lent.{flags_in, Obeys};
 ghost use Rattle.kinds.specs.Kinds.{form, record_of};
-ghost use Rattle.pace.specs.Pace.{SteppedKind, LowKind, Ready, ahead_in, ObeysIf, BranchesIf, PassesBy};
+ghost use Rattle.pace.specs.Pace.{SteppedKind, Ready, ahead_in, Steps};
 
 use record::register;
 use setup::Setup;
 use waiting::Waiting;
 
-// The step of a record of kinds 01 to 13, which no condition passes over but a branch's own, where nothing waits. One call for a group of
-// kinds whose arm is large: the compiler then puts it here.
+// The step of a record: what it leaves is what `obeyed` gives.
 pub fn obey(
     registers: &mut [u32; 16],
     marks: &mut [bool; 5],
-    free: bool,
+    waiting: Waiting,
     ahead: u32,
-    kind: u8,
     r: &[u8],
     memory: &mut [u8],
     setup: Setup,
 ) -> u32
-    requires { LowKind kind r.now }
-    ensures { ObeysIf (passes (flags_in marks.old) (if free then own_condition (record_of r.now) else 14)) result registers.new (flags_in marks.new) memory.new registers.old (flags_in marks.old) ahead r.now memory.old setup }
+    requires { Ready r.now waiting × (ahead ≡ ahead_in registers.old r.now) }
+    ensures { Steps result registers.new marks.new memory.new registers.old marks.old waiting r.now memory.old setup }
 {
+    let passed = is_passed(marks, waiting.first, r);
+    if passed {
+        return take_effect(registers, marks, ahead, r, memory, setup);
+    }
+    lent::put(registers, register::PC, ahead);
+    0
+}
+
+// One call for a group of kinds whose arm is large: the compiler then puts it here.
+fn take_effect(
+    registers: &mut [u32; 16],
+    marks: &mut [bool; 5],
+    ahead: u32,
+    r: &[u8],
+    memory: &mut [u8],
+    setup: Setup,
+) -> u32
+    requires { SteppedKind r.now }
+    ensures { Obeys result registers.new (flags_in marks.new) memory.new registers.old (flags_in marks.old) ahead r.now memory.old setup }
+{
+    let kind = r[0];
     if kind < 4 {
-        return data_arms::operate(registers, marks, ahead, kind, r);
+        return data_arms::operate(registers, marks, ahead, r);
     }
     let accesses = (kind == 13) | (kind == 14);
     if accesses {
-        return access_arms::access_one(registers, ahead, kind, r, memory, setup);
+        return access_arms::access_one(registers, ahead, r, memory, setup);
     }
     match kind {
         4 => data_arms::add_a_number(registers, ahead, r),
@@ -48,61 +67,23 @@ pub fn obey(
         15 => access_arms::access_two(registers, ahead, r, memory, setup),
         16 => access_arms::many::access_many(registers, ahead, r, memory, setup),
         17 => {
-            branch_if(registers, marks, free, ahead, r);
+            branch_arms::branch_off(registers, ahead, r);
             0
         }
         18 => branch_arms::branch_to_register(registers, ahead, r),
-        _ => {
+        19 => {
             branch_arms::compare_and_branch(registers, ahead, r);
+            0
+        }
+        22 => branch_arms::branch_by_table(registers, ahead, r, memory, setup),
+        _ => {
+            lent::put(registers, register::PC, ahead);
             0
         }
     }
 }
 
-// Kind 11: in a block its own condition is AL.
-fn branch_if(registers: &mut [u32; 16], marks: &[bool; 5], free: bool, ahead: u32, r: &[u8])
-    requires { LowKind 17 r.now }
-    ensures { BranchesIf (passes (flags_in marks.now) (if free then own_condition (record_of r.now) else 14)) registers.new registers.old ahead r.now }
-{
-    let passed = !free | lent::passes(marks, r[3]);
-    if passed {
-        branch_arms::branch_off(registers, ahead, r);
-        return;
-    }
-    lent::put(registers, register::PC, ahead);
-}
-
-// The step of a record that its condition passes over, or of IT, of NOP or of a table branch.
-pub fn pass_by(
-    registers: &mut [u32; 16],
-    passed: bool,
-    ahead: u32,
-    kind: u8,
-    r: &[u8],
-    memory: &[u8],
-    setup: Setup,
-) -> u32
-    requires { SteppedKind r.now × (kind ≡ byte r.now 0) × (passed ≡ true → 20 ≤ kind) }
-    ensures { PassesBy passed result registers.new registers.old ahead r.now memory.now setup }
-{
-    let jumps = passed & (kind == 22);
-    if jumps {
-        return branch_arms::branch_by_table(registers, ahead, r, memory, setup);
-    }
-    lent::put(registers, register::PC, ahead);
-    0
-}
-
-// The address of the next record, after one of kinds 01 to 13: these have an op before the form byte.
-pub fn ahead_of_low(registers: &[u32; 16], r: &[u8]) -> u32
-    requires { LowKind (byte r.now 0) r.now }
-    ensures { result ≡ ahead_in registers.now r.now }
-{
-    let here = lent::read(registers, register::PC);
-    std::num::wrapping_add_u32(here, form_length_of(r[2]))
-}
-
-// The same after any record.
+// The address of the next record.
 pub fn ahead_of(registers: &[u32; 16], r: &[u8]) -> u32
     requires { SteppedKind r.now }
     ensures { result ≡ ahead_in registers.now r.now }
@@ -133,12 +114,30 @@ fn form_length_of(bits: u8) -> u32
 
 // The conditions that wait after a record.
 pub fn waiting_after(waiting: Waiting, r: &[u8]) -> Waiting
-    requires { SteppedKind r.now }
+    requires { Ready r.now waiting }
     ensures { result ≡ after (record_of r.now) waiting }
 {
     let kind = r[0];
     if kind == 20 {
         return Waiting::block_of(r[2], r[3], r[4]);
     }
+    if waiting.first == Waiting::NONE {
+        return waiting;
+    }
     waiting.drop_first()
+}
+
+// Does the condition that rules a record pass: the first that waits, or a branch's own?
+fn is_passed(marks: &[bool; 5], first: u8, r: &[u8]) -> bool
+    requires { SteppedKind r.now }
+    ensures { result ≡ passes (flags_in marks.now) (if nat_eq first none then own_condition (record_of r.now) else first) }
+{
+    if first == Waiting::NONE {
+        let kind = r[0];
+        if kind == 17 {
+            return lent::passes(marks, r[3]);
+        }
+        return true;
+    }
+    lent::passes(marks, first)
 }

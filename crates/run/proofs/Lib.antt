@@ -3,8 +3,4 @@ pub mod Faced
 pub mod Rounds
 pub mod Steps
 pub mod Spots
-pub mod Recalling
-pub mod Ruling
-pub mod Legs
 pub mod Racing
-pub mod Stops

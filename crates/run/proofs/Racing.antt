@@ -10,7 +10,6 @@ use lib.ListN.{length, get_or, take, drop}
 use Rattle.word.proofs.Cases.{cases, yes_or_no}
 use Rattle.little.specs.Little.{byte}
 use Rattle.waiting.specs.declared.Waiting.{Waiting}
-use Rattle.waiting.specs.Waiting.{none, nothing}
 use Rattle.record.specs.declared.Record.{Record}
 use Rattle.flow.specs.Flow.{machine_length, after}
 use Rattle.kinds.specs.Kinds.{listing_length, record_of}
@@ -20,7 +19,6 @@ use Rattle.reading.proofs.Places.{ahead}
 use Rattle.layout.specs.declared.Point.{Point}
 use Rattle.layout.specs.Layout.{AtAddress, Stands, End, Stray}
 use Rattle.layout.proofs.Members.{on_within}
-use Rattle.layout.proofs.Blocks.{nothing_waits}
 use Rattle.listing.proofs.Accepted.{Accepted}
 use Rattle.machine.specs.declared.Machine.{Machine}
 use Rattle.machine.specs.Machine.{PC, held, Outcome, keeping}
@@ -29,11 +27,26 @@ use Rattle.lent.specs.Lent.{assembled, flags_in, came}
 use Rattle.pace.specs.Pace.{Ready, ahead_in}
 use Rattle.run.specs.declared.Sight.{Sight}
 use Rattle.run.specs.Run.{Rehearsal, State, faced, attempted, round_at, round, over, continued, used_up, rounds}
-use Rattle.run.specs.Code.{Fit, parts_of, spot, kind_there, followed_to, counted, Nowhere, At, Led}
+use Rattle.run.specs.Code.{Fit, parts_of, spot, kind_there, followed_to, counted, Nowhere, At, SteppedSo}
 use Rattle.run.proofs.Rounds.{facing_there, step_there}
 use Rattle.run.proofs.Spots.{KindMet, kind_met, at_point, at_spot}
-use Rattle.run.proofs.Steps.{none_counted, next_state, stands, q, on, ready, untested, result, next_fit, waits_next, next_at}
-use Rattle.run.proofs.Legs.{led_one, led_refused}
+use Rattle.run.proofs.Steps.{next_state, stands, q, on, ready, untested, result, next_fit, waits_next, next_at}
+
+-- ---- a round
+-- where no record is faced a run is over, whatever is left of its budget
+pub over_now : (h : Rehearsal) (s : State) → Nowhere (faced h s.machine) → (left : ℕ) → rounds left h s ≡ over (used_up (faced h s.machine)) 0 s
+unfolding rounds round round_at used_up
+over_now h s n zero = refl
+over_now h s n (suc left) = go (faced h s.machine) n
+  where
+    go : (t : AtAddress) → Nowhere t → continued (round_at t h s) s (rounds left h) ≡ over (used_up t) 0 s
+    go (Stands r p) n = absurd n
+    go End n = refl
+    go Stray n = refl
+
+pub none_left : (h : Rehearsal) (s : State) → rounds zero h s ≡ over (used_up (faced h s.machine)) 0 s
+unfolding rounds
+none_left h s = refl
 
 -- the step of the record at a place
 module _ (h : Rehearsal) (ok : Accepted h.listing h.base) (s : State) (fit : Fit h s) (place kind : ℕ)
@@ -80,9 +93,6 @@ module _ (h : Rehearsal) (ok : Accepted h.listing h.base) (s : State) (fit : Fit
   pub ready_here : Ready bytes m.waiting
   ready_here = rw here at (ready h ok s fit r p e)
 
-  pub kind_here : kind ≡ byte bytes 0
-  kind_here = is_kind ∙ (ap (byte h.listing) (sym here) ∙ (sym met.first ∙ ap (λ (n : ℕ). byte (part h.listing n) 0) here))
-
   what : r ≡ record_of bytes
   what = rw here at met.what
 
@@ -97,17 +107,20 @@ module _ (h : Rehearsal) (ok : Accepted h.listing h.base) (s : State) (fit : Fit
     numbered = ap (λ (o : Outcome). o.answer.number) outcome
 
     -- a refused step leaves all as it was
-    pub refused_led : (number ≡ 0 → ⊥) → Led h s (parts_of registers marks m.waiting memory) number 0 1 place kind
+    refused_here : (number ≡ 0 → ⊥) → (left : ℕ) → rounds (suc left) h s ≡ over number place (parts_of registers marks m.waiting memory)
     unfolding rounds round round_at attempted
-    refused_led n =
+    refused_here n left =
         let o = step_there h s p.place in
         let given = (result h ok s fit r p e).as_given (λ z. n (sym numbered ∙ z)) in
         let back : assembled registers (flags_in marks) m.waiting ≡ m =
         rw (ne_eqb number 0 n) at (sym (ap (λ (x : Outcome). x.answer.machine) outcome) ∙ given.0)
         in
         let kept : memory ≡ s.memory = sym (ap (λ (x : Outcome). x.memory) outcome) ∙ given.1 in
-        let last : (left : ℕ) → rounds (suc left) h s ≡ over number place s = λ left. rw (e, ne_eqb o.answer.number 0 (λ z. n (sym numbered ∙ z)), numbered, here) in
-        rw (back, kept) (led_refused h s number place kind fit at last)
+        rw (e, ne_eqb o.answer.number 0 (λ z. n (sym numbered ∙ z)), numbered, here, back, kept)
+
+    pub refused_so : (number ≡ 0 → ⊥) → (place' kind' : ℕ)
+        → SteppedSo h s place (record { number = number; place = place'; kind = kind'; waiting = m.waiting }) (parts_of registers marks m.waiting memory)
+    refused_so n place' kind' = record { refused = λ z. refused_here n; done = λ z. absurd (n z) }
 
     module _ (done : number ≡ 0) where
       abbrev waits : Waiting
@@ -154,14 +167,9 @@ module _ (h : Rehearsal) (ok : Accepted h.listing h.base) (s : State) (fit : Fit
               let seen = ap (λ (t : Sight). spot t (length h.listing)) (facing_there h.listing h.base to waits) in
               at_spot h ok x place' ((rw t at f) ∙ seen)
 
-      -- without a first there are none
-      pub waits_none : waits.first ≡ none → waits ≡ nothing
-      waits_none f =
-          let g = ap (λ (w : Waiting). w.first) (sym waits_there) ∙ f in
-          waits_there ∙ nothing_waits h.listing h.base next (on h ok s fit r p e) (none_counted next.waiting g)
-
-      pub done_led : (ahead to kind' : ℕ) (waits' : Waiting) → waits' ≡ waits → ahead ≡ ahead_in m.registers bytes
+      pub done_so : (ahead to kind' : ℕ) (waits' : Waiting) → waits' ≡ waits → ahead ≡ ahead_in m.registers bytes
           → to ≡ followed_to registers waits' ahead (place + listing_length kind) h.listing h.base → kind' ≡ kind_there h.listing to
-          → Led h s (parts_of registers marks waits' memory) 0 1 1 to kind'
-      done_led ahead to kind' waits' w a f k =
-          let there = at_next ahead to a (rw w at f) in rw (k, w) (led_one h s (parts_of registers marks waits memory) to (kind_there h.listing to) fit_next there round_done)
+          → SteppedSo h s place (record { number = 0; place = to; kind = kind'; waiting = waits' }) (parts_of registers marks waits' memory)
+      done_so ahead to kind' waits' w a f k =
+          let there = at_next ahead to a (rw w at f) in
+          rw (k, w) (record { refused = λ n. absurd (n refl); done = λ z. record { fit = fit_next; at = there; on = round_done } })

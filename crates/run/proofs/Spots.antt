@@ -49,7 +49,6 @@ pub record KindMet (listing : List ℕ) (p : Point) (r : Record) (next : ℕ) : 
   pub there : kind_there listing p.place.0 ≡ byte listing p.place.0
   pub filler : fills (way r) ≡ eqb (byte listing p.place.0) 0x17
   pub what : r ≡ record_of (part listing p.place.0)
-  pub first : byte (part listing p.place.0) 0 ≡ byte listing p.place.0
   pub to : next ≡ p.place.0 + listing_length (byte listing p.place.0)
 
 -- the place after a record that was read
@@ -79,7 +78,6 @@ kind_met listing p n r e =
       there = rw (lt-ltb place (length listing) (omega (arith, a.on, a.inside)));
       filler = rw so.is (fills_as (part listing place) ∙ ap (λ (k : ℕ). eqb k 0x17) first);
       what = so.is;
-      first = first;
       to = to;
     }
 

@@ -5,7 +5,6 @@ use mathlib.Core.Path.{◌≡◌, sym, ap, ◌∙◌}
 use native.Mathlib.Omega.{arith}
 use borrow.Author.Tests.{eq-eqb, eqb-false}
 use Rattle.little.specs.Little.{byte}
-use Rattle.waiting.specs.declared.Waiting.{Waiting}
 use Rattle.waiting.specs.Waiting.{none, waiting_count}
 use Rattle.waiting.proofs.Good.{is_good}
 use Rattle.record.specs.declared.Record.{Record}
@@ -37,10 +36,6 @@ use Rattle.run.proofs.Rounds.{step_there}
 
 abbrev pub next_state : Rehearsal → State → Point → State
 next_state h s p = let o = step_there h s p.place in state o.answer.machine o.memory
-
-pub none_counted : (w : Waiting) → w.first ≡ none → waiting_count w ≡ 0
-unfolding waiting_count
-none_counted w f = rw (eq-eqb w.first none f)
 
 module _ (h : Rehearsal) (ok : Accepted h.listing h.base) (s : State) (fit : Fit h s) (r : Record) (p : Point)
     (e : faced h s.machine ≡ Stands r p) where
@@ -79,6 +74,10 @@ module _ (h : Rehearsal) (ok : Accepted h.listing h.base) (s : State) (fit : Fit
   so : ReadSo bytes r
   so = read_so bytes r read_here
 
+  none_counted : p.waiting.first ≡ none → waiting_count p.waiting ≡ 0
+  unfolding waiting_count
+  none_counted f = rw (eq-eqb p.waiting.first none f)
+
   pub ready : Ready bytes m.waiting
   ready = record {
     kind = record {
@@ -89,7 +88,7 @@ module _ (h : Rehearsal) (ok : Accepted h.listing h.base) (s : State) (fit : Fit
       sound = so.sound;
     };
     spot = rw (← so.is) (not_refused r (waiting_count m.waiting) unrefused_here).1;
-    none_waits = λ f. rw here.1 (nothing_waits h.listing h.base p stands.on (none_counted p.waiting (rw here.1 at f)));
+    none_waits = λ f. rw here.1 (nothing_waits h.listing h.base p stands.on (none_counted (rw here.1 at f)));
   }
 
   -- ---- after it

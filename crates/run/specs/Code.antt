@@ -1,10 +1,9 @@
 -- For the code alone: where its machine is, and what its rounds keep of a run, where the definition keeps the records too.
-use Rattle.std.specs.Prelude.{ℕ, suc, ◌+◌, ◌≤◌, ◌<◌, Bool, true, false, ◌&&◌, ◌||◌, ◌≡◌, eqb, ltb, length, get_or}
+use Rattle.std.specs.Prelude.{ℕ, suc, ◌+◌, ◌<◌, Bool, true, ◌&&◌, ◌||◌, ◌≡◌, eqb, ltb, length, get_or}
 use mathlib.Core.List.{List, Memᴰ}
 use Rattle.word.specs.Choice.{if◌then◌else◌}
 use Rattle.waiting.specs.declared.Waiting.{Waiting}
-use Rattle.waiting.specs.Waiting.{none, nothing, same, dropped}
-use Rattle.flags.specs.Flags.{passes}
+use Rattle.waiting.specs.Waiting.{nothing, same}
 use Rattle.record.specs.declared.Record.{Record}
 use Rattle.little.specs.Little.{byte}
 use Rattle.setup.specs.declared.Setup.{Setup}
@@ -22,8 +21,7 @@ use Rattle.run.specs.declared.Stored.{Stored}
 use Rattle.run.specs.declared.Stored.TheVariants.{In, None}
 use Rattle.run.specs.declared.seat.Seat.{Seat}
 use Rattle.run.specs.declared.race.Raced.{Raced}
-use Rattle.run.specs.declared.race.Leg.{Leg}
-use Rattle.run.specs.declared.race.Dashed.{Dashed}
+use Rattle.run.specs.declared.race.Stride.{Stride}
 use Rattle.lent.specs.Lent.{assembled, flags_in}
 use Rattle.run.specs.Run.{Rehearsal, rehearsal, State, state, Course, faced, over, used_up, rounds}
 use Rattle.run.specs.Place.{place_in, walks_place, same_place, Journey, journey, Halting, halting}
@@ -116,20 +114,11 @@ spot AtNone length = length
 unfoldable pub kind_there : List ℕ → ℕ → ℕ
 kind_there listing place = if ltb place (length listing) then byte listing place else 0x17
 
--- the place that is looked up for an address
-abbrev pub landed : List ℕ → ℕ → Waiting → ℕ → ℕ
-landed listing base waiting address = spot (facing (seat_at listing base address) waiting (length listing)) (length listing)
-
 -- the place after a step, `next` being that of the next record, which stands at `ahead`
 unfoldable pub followed_to : List ℕ → Waiting → ℕ → ℕ → List ℕ → ℕ → ℕ
 followed_to registers waiting ahead next listing base =
-    let to = get_or registers PC 0 in if eqb to ahead then next else landed listing base waiting to
-
--- addresses, each with the place that is looked up for it where nothing waits
-pub record Recalls (keys spots listing : List ℕ) (base : ℕ) : Type 0 where
-  pub many : length keys ≡ 1024
-  pub as_many : length spots ≡ 1024
-  pub each : (i : ℕ) → i < 1024 → get_or spots i 0 ≡ landed listing base nothing (get_or keys i 0)
+    let to = get_or registers PC 0 in
+    if eqb to ahead then next else spot (facing (seat_at listing base to) waiting (length listing)) (length listing)
 
 -- no record is faced
 abbrev pub Nowhere : AtAddress → Type 0
@@ -168,70 +157,27 @@ counted h count c =
     })
     c.last.memory
 
--- a place, and the kind there
-pub record IsAt (registers : List ℕ) (marks : List Bool) (waiting : Waiting) (place kind : ℕ) (listing : List ℕ) (base : ℕ)
+-- the record at a place, to be stepped
+pub record StandsAt (registers : List ℕ) (marks : List Bool) (waiting : Waiting) (place kind : ℕ) (listing : List ℕ) (base : ℕ)
     (memory : List ℕ) (setup : Setup) : Type 0 where
   pub fit : Fit (rehearsal listing base setup) (parts_of registers marks waiting memory)
   pub at : At (rehearsal listing base setup) (assembled registers (flags_in marks) waiting) place kind
-
--- a record to be stepped there
-pub record StandsAt (registers : List ℕ) (marks : List Bool) (waiting : Waiting) (place kind : ℕ) (listing : List ℕ) (base : ℕ)
-    (memory : List ℕ) (setup : Setup) : Type 0 where
-  pub there : IsAt registers marks waiting place kind listing base memory setup
   pub stepped : kind ≡ 0x17 → ⊥
 
--- rounds within a limit that were done, and then a step that is refused, if there is a number: what the run gives from the one state on, it
--- gives from the other
-pub record Led (h : Rehearsal) (before after : State) (number count limit place kind : ℕ) : Type 0 where
-  pub on : (done left : ℕ) → counted h done (rounds (count + left) h before) ≡ counted h (done + count) (rounds left h after)
+-- after a step that was done: the run goes on from there
+pub record LedOn (h : Rehearsal) (before after : State) (place kind : ℕ) : Type 0 where
   pub fit : Fit h after
   pub at : At h after.machine place kind
-  pub within : count ≤ limit
-  pub refused : (number ≡ 0 → ⊥) → (count < limit) × ((left : ℕ) → rounds (suc left) h after ≡ over number place after)
+  pub on : (count left : ℕ) → counted h count (rounds (suc left) h before) ≡ counted h (count + 1) (rounds left h after)
 
--- some, unless the first is refused or no record is there
-pub record RanOn (h : Rehearsal) (before after : State) (limit : ℕ) (r : Leg) : Type 0 where
-  pub led : Led h before after r.number r.count limit r.place r.kind
-  pub none : r.number ≡ 0 → r.count ≡ 0 → r.kind ≡ 0x17
+-- the step of the record at a place: refused, and all is as it was; or done
+pub record SteppedSo (h : Rehearsal) (before : State) (place : ℕ) (r : Stride) (after : State) : Type 0 where
+  pub refused : (r.number ≡ 0 → ⊥) → (left : ℕ) → rounds (suc left) h before ≡ over r.number place after
+  pub done : r.number ≡ 0 → LedOn h before after r.place r.kind
 
-abbrev pub Strode : Leg → List ℕ → List Bool → List ℕ → List ℕ → List Bool → Waiting → ℕ → List ℕ → List ℕ → ℕ → Setup → Type 0
-Strode r after marks memory before were waiting limit bytes listing base setup =
-    RanOn
-    (rehearsal listing base setup)
-    (parts_of before were waiting bytes)
-    (parts_of after marks r.waiting memory)
-    limit
-    r
-
--- what waits before a step, and after one or more where nothing waited or there was one alone
-unfoldable pub waits_at : ℕ → Waiting → Waiting
-waits_at count w = if eqb count 0 then w else dropped w
-
-abbrev pub DashedTo : Dashed → List ℕ → List Bool → List ℕ → List ℕ → List Bool → Waiting → ℕ → List ℕ → List ℕ → ℕ → Setup → Type 0
-DashedTo r after marks memory before were waiting limit bytes listing base setup =
-    Led
-    (rehearsal listing base setup)
-    (parts_of before were waiting bytes)
-    (parts_of after marks (waits_at r.count waiting) memory)
-    r.number
-    r.count
-    limit
-    r.place
-    r.kind
-    × (r.number ≡ 0 → 1 ≤ r.count)
-
--- rounds of kinds 01 to 13: from where nothing waits, or one, of which the condition passes
-pub record Dashes (marks : List Bool) (waiting : Waiting) (free : Bool) (kind limit : ℕ) : Type 0 where
-  pub low : kind ≤ 19
-  pub some : 1 ≤ limit
-  pub is_free : free ≡ eqb waiting.first none
-  pub one : free ≡ false → limit ≤ 1
-  pub passed : free ≡ false → passes (flags_in marks) waiting.first ≡ true
-
--- the step of another record
-pub record PassedSo (marks : List Bool) (waiting : Waiting) (passed : Bool) (kind : ℕ) : Type 0 where
-  pub is : passed ≡ (eqb waiting.first none || passes (flags_in marks) waiting.first)
-  pub late : passed ≡ true → 20 ≤ kind
+abbrev pub Strode : Stride → List ℕ → List Bool → List ℕ → List ℕ → List Bool → Waiting → ℕ → List ℕ → List ℕ → ℕ → Setup → Type 0
+Strode r after marks memory before were waiting place bytes listing base setup =
+    SteppedSo (rehearsal listing base setup) (parts_of before were waiting bytes) place r (parts_of after marks r.waiting memory)
 
 -- rounds that stopped: a step was refused; or there is none, or no budget for it
 abbrev pub stopped_at : Rehearsal → Raced → State → Course
