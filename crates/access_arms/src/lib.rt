@@ -1,6 +1,8 @@
 // Kinds 0D to 10 in a run: registers and memory are lent, and the fields come from the bytes of a record that the check has passed. Nothing
 // is stored before every test is passed.
 
+#![tactic(auto)]
+
 mod back;
 pub mod many;
 
@@ -16,7 +18,7 @@ use setup::Setup;
 use transfer::Alignment;
 
 // The base rn is written back as `to`, unless the access is plain.
-#[derive(Drop)]
+#[derive(Clone, Copy)]
 pub struct Reach {
     pub op: AccessOp,
     pub plain: bool,

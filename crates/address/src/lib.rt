@@ -1,5 +1,7 @@
 // Addresses: the bits that R15 and a link have, and signed offsets.
 
+#![tactic(auto)]
+
 ghost use Rattle.std.specs.Prelude.{◌≡◌};
 ghost use Rattle.address.specs.Address.{cleared, linked, moved};
 

@@ -1,5 +1,7 @@
 // Kinds 11 to 13 and 16 in a run: the registers are lent, and the fields come from the bytes of a record that the check has passed.
 
+#![tactic(auto)]
+
 ghost use Rattle.std.specs.Prelude.{◌≡◌};
 ghost use Rattle.machine.specs.Branch.{branches};
 ghost use Rattle.machine.specs.Machine.{PC};

@@ -1,5 +1,7 @@
 // The constants of kind 02, and the carry that one gives.
 
+#![tactic(auto)]
+
 ghost use Rattle.std.specs.Prelude.{◌≡◌};
 ghost use Rattle.constant.specs.Constant.{shifted_byte, repeated_byte, constant, constant_carry};
 

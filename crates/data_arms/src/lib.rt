@@ -1,5 +1,7 @@
 // Kinds 01 to 0C in a run: registers and flags are lent, and the fields come from the bytes of a record that the check has passed.
 
+#![tactic(auto)]
+
 ghost use Rattle.std.specs.Prelude.{◌<◌, ltb};
 ghost use Rattle.lent.specs.Lent.{flags_in, put_in, Settled, OfKind, ObeysOn, ObeysMarking};
 ghost use Rattle.word.specs.Choice.{if◌then◌else◌};
@@ -12,7 +14,7 @@ use product::Long;
 use record::op::DataOp;
 use shift::Shifted;
 
-#[derive(Drop)]
+#[derive(Clone, Copy)]
 pub struct Operands {
     pub op: DataOp,
     pub s: bool,

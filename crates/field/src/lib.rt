@@ -1,5 +1,7 @@
 // BFC BFI SBFX UBFX, and SXTB SXTH UXTB UXTH after a rotation.
 
+#![tactic(auto)]
+
 ghost use Rattle.std.specs.Prelude.{◌≡◌};
 ghost use Rattle.field.specs.Field.{UBFX, SBFX, BFI, BFC, SXTB, SXTH, UXTB, UXTH};
 

@@ -1,5 +1,7 @@
 // Are the fields of a record as paper 01 has them?
 
+#![tactic(auto)]
+
 mod parts;
 
 ghost use Rattle.std.specs.Prelude.{◌≡◌};

@@ -1,11 +1,13 @@
 // The flags, and the conditions that are asked of them.
 
+#![tactic(auto)]
+
 ghost use Rattle.std.specs.Prelude.{◌≡◌};
 ghost use Rattle.flags.specs.Flags.{clear, passes, signs, all_four, saturating};
 
 use sum::Sum;
 
-#[derive(Drop)]
+#[derive(Clone, Copy)]
 pub struct Flags {
     pub n: bool,
     pub z: bool,

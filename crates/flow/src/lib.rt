@@ -1,5 +1,7 @@
 // What a record does to the way through a listing.
 
+#![tactic(auto)]
+
 ghost use Rattle.std.specs.Prelude.{◌≡◌};
 ghost use Rattle.flow.specs.Flow.{form_length, to_pc, taken_if, going, passing, lone, parting, traits, machine_length, way, target, leaves, fills, misplaced, opened, after, own_condition};
 ghost use Rattle.record.specs.declared.Record.TheVariants.{Branch, IfThen};
@@ -9,7 +11,7 @@ use record::{BranchFields, Form, IfThenFields, Record, register};
 use waiting::Waiting;
 
 // Where a record goes.
-#[derive(Drop)]
+#[derive(Clone, Copy)]
 pub enum Way {
     // to the next record, by its length
     Next,
@@ -22,14 +24,14 @@ pub enum Way {
 }
 
 // What a record opens: no block, or one of a condition, a count and else bits.
-#[derive(Drop)]
+#[derive(Clone, Copy)]
 pub enum Opens {
     Nothing,
     Block(u8, u8, u8),
 }
 
 // What a listing must know of a record.
-#[derive(Drop)]
+#[derive(Clone, Copy)]
 pub struct Traits {
     // in machine bytes
     pub length: u32,

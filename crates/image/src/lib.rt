@@ -1,5 +1,7 @@
 // A machine as 74 bytes: what the C functions take and give.
 
+#![tactic(auto)]
+
 ghost use Rattle.std.specs.Prelude.{◌≡◌, set};
 ghost use Rattle.word.specs.Word.{one_if};
 ghost use Rattle.image.specs.Image.{words, flags_of, flags_fit, condition_at, waiting_of, place_fits, waiting_fits, is_image, machine_of, condition_byte, with_flag_bytes, with_waiting_bytes, image_of};

@@ -1,5 +1,7 @@
 // The number that a record is refused with: 2, 3 or 4, the lowest that applies.
 
+#![tactic(auto)]
+
 ghost use Rattle.std.specs.Prelude.{◌≡◌};
 ghost use Rattle.word.specs.Choice.{if◌then◌else◌};
 ghost use Rattle.reading.specs.Reading.{read_one};

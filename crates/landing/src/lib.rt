@@ -1,19 +1,21 @@
 // Landing places: a table of their addresses, which rise, and of their places. It is searched by halves.
 
+#![tactic(auto)]
+
 ghost use Rattle.std.specs.Prelude.{◌≡◌, ◌≤◌, min, length};
 ghost use Rattle.landing.specs.Code.{table, table_left, lands_seen, entered, tabled, by_halves, last_to};
 
 use layout::{Point, Seen};
 use reading::Place;
 
-#[derive(Drop)]
+#[derive(Clone, Copy)]
 pub struct Landing {
     pub address: u32,
     pub place: Place,
 }
 
 // The last landing place that is not above an address.
-#[derive(Drop)]
+#[derive(Clone, Copy)]
 pub enum Last {
     At(Landing),
     None,

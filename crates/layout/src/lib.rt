@@ -1,5 +1,7 @@
 // The layout of a listing: the walk along its records.
 
+#![tactic(auto)]
+
 ghost use Rattle.std.specs.Prelude.{◌≡◌};
 ghost use Rattle.layout.specs.Layout.{start, free, refusal_at, judged_at, meets};
 ghost use Rattle.layout.specs.Code.{in_64_bits, passed, seen, seen_filled};
@@ -11,11 +13,11 @@ use record::Record;
 use waiting::Waiting;
 
 // An address counts machine bytes. That of the end may be past the last word.
-#[derive(Drop)]
+#[derive(Clone, Copy)]
 pub struct Address(pub u64);
 
 // A point of the layout: where a record or the end stands, and which conditions wait there.
-#[derive(Drop)]
+#[derive(Clone, Copy)]
 pub struct Point {
     pub place: Place,
     pub address: Address,
@@ -25,7 +27,7 @@ pub struct Point {
 }
 
 // What a pass takes from a point.
-#[derive(Drop)]
+#[derive(Clone, Copy)]
 pub enum Seen {
     // where the record goes, and the next point
     Goes(Way, Point),

@@ -1,5 +1,7 @@
 // The machine in parts: registers and flags are lent to the arm of a record. A register's number is below 16, as the check has seen.
 
+#![tactic(auto)]
+
 ghost use Rattle.std.specs.Prelude.{◌≡◌, ◌<◌, slice_index, slice_set};
 ghost use Rattle.word.specs.Choice.{if◌then◌else◌};
 ghost use Rattle.flags.specs.Flags.{passes, signs, all_four, saturating};

@@ -1,5 +1,7 @@
 // The check of a listing.
 
+#![tactic(auto)]
+
 ghost use Rattle.std.specs.Prelude.{◌≡◌, ◌≤◌, eqb, length};
 ghost use Rattle.word.specs.Choice.{if◌then◌else◌};
 ghost use Rattle.listing.specs.Check.{report, end_fault, first_pass, checked};
@@ -10,7 +12,7 @@ use layout::{Point, Seen};
 use reading::Place;
 
 // The number that a listing is refused with, and where; 0 and place 0 of one that is accepted.
-#[derive(Drop)]
+#[derive(Clone, Copy)]
 pub struct Checked {
     pub number: u32,
     pub place: Place,

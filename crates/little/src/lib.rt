@@ -1,5 +1,7 @@
 // Bytes, halves and words of a lent slice, little-endian; past its end there are zeros.
 
+#![tactic(auto)]
+
 ghost use Rattle.std.specs.Prelude.{◌≡◌};
 ghost use Rattle.little.specs.Little.{byte, number_at};
 

@@ -1,5 +1,7 @@
 // AND ORR EOR BIC ORN MVN on words.
 
+#![tactic(auto)]
+
 ghost use Rattle.std.specs.Prelude.{◌≡◌};
 ghost use Rattle.logic.specs.Logic.{AND, ORR, EOR, BIC, ORN, MVN};
 

@@ -1,5 +1,7 @@
 // The machine, and its step.
 
+#![tactic(auto)]
+
 pub mod access;
 pub mod branch;
 pub mod compute;
@@ -16,7 +18,7 @@ use record::Record;
 use setup::Setup;
 use waiting::Waiting;
 
-#[derive(Drop)]
+#[derive(Clone, Copy)]
 pub struct Machine {
     pub registers: [u32; 16],
     pub flags: Flags,
@@ -24,7 +26,7 @@ pub struct Machine {
 }
 
 // A step's number, and the machine after it.
-#[derive(Drop)]
+#[derive(Clone, Copy)]
 pub struct Stepped {
     pub number: u32,
     pub machine: Machine,

@@ -1,5 +1,7 @@
 // Memory: one lent buffer with a base address, little-endian. Above this crate there are addresses only.
 
+#![tactic(auto)]
+
 ghost use Rattle.std.specs.Prelude.{◌≡◌, ◌+◌, ◌*◌, ◌/◌, ◌%◌, ◌^◌, ◌<◌, ◌≤◌, length, slice_set};
 ghost use Rattle.little.specs.Little.{number_at};
 ghost use Rattle.memory.specs.Memory.{holds, inside, byte_at, put_byte, loaded, stored};

@@ -1,5 +1,7 @@
 // What the operations of kinds 01 to 0C make of their operands.
 
+#![tactic(auto)]
+
 ghost use Rattle.std.specs.Prelude.{◌≡◌};
 ghost use Rattle.operate.specs.Operate.{shifter, constant_operand, logical, operated, added, placed_number, unary_result, multiplied, multiplied_long, divided, saturation, saturated, fielded, extended};
 
@@ -13,7 +15,7 @@ use shift::Shifted;
 use sum::Sum;
 
 // What SSAT or USAT puts in its register, and whether it saturated.
-#[derive(Drop)]
+#[derive(Clone, Copy)]
 pub struct Saturation {
     pub value: u32,
     pub saturated: bool,

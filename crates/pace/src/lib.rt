@@ -1,5 +1,7 @@
 // One step of a run, on the machine's parts.
 
+#![tactic(auto)]
+
 ghost use Rattle.std.specs.Prelude.{◌≡◌, nat_eq};
 ghost use Rattle.word.specs.Choice.{if◌then◌else◌};
 ghost use Rattle.flags.specs.Flags.{passes};

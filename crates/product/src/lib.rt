@@ -1,10 +1,12 @@
 // MUL MLA MLS modulo 2^32; UMULL UMLAL SMULL SMLAL as 64 bits in two words.
 
+#![tactic(auto)]
+
 ghost use Rattle.std.specs.Prelude.{◌≡◌, ◌*◌, ◌*ℤ◌};
 ghost use Rattle.word.specs.Word.{signed, wrapped};
 ghost use Rattle.product.specs.Product.{MUL, MLA, MLS, halves, whole, UMULL, UMLAL, SMULL, SMLAL};
 
-#[derive(Drop)]
+#[derive(Clone, Copy)]
 pub struct Long {
     pub low: u32,
     pub high: u32,

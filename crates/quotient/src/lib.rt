@@ -1,5 +1,7 @@
 // UDIV, and SDIV by i32 division.
 
+#![tactic(auto)]
+
 ghost use Rattle.std.specs.Prelude.{◌≡◌};
 ghost use Rattle.quotient.specs.Quotient.{UDIV, SDIV};
 

@@ -1,11 +1,13 @@
 // The listing is walked by a reader that holds the lent listing and its place.
 
+#![tactic(auto)]
+
 ghost use Rattle.std.specs.Prelude.{◌≡◌};
 ghost use Rattle.reading.specs.Reading.{read_at};
 
 use reading::{Place, ReadAt};
 
-#[derive(Drop)]
+#[derive(Clone, Copy)]
 pub struct Reader<'a> {
     pub listing: &'a [u8],
     pub place: Place,

@@ -1,5 +1,7 @@
 // Records out of bytes.
 
+#![tactic(auto)]
+
 ghost use Rattle.std.specs.Prelude.{◌≡◌};
 ghost use Rattle.word.specs.Choice.{if◌then◌else◌};
 ghost use Rattle.fields.specs.Fields.{well_formed};
@@ -8,18 +10,18 @@ ghost use Rattle.reading.specs.Reading.{coded, named, read_one, part, read_at};
 use record::Record;
 
 // A place counts listing bytes.
-#[derive(Drop)]
+#[derive(Clone, Copy)]
 pub struct Place(pub usize);
 
 // What bytes are that must be one record and no more.
-#[derive(Drop)]
+#[derive(Clone, Copy)]
 pub enum Read {
     Is(Record),
     Refused,
 }
 
 // What stands at a place of a listing: a record, with the place after it, or nothing that is one.
-#[derive(Drop)]
+#[derive(Clone, Copy)]
 pub enum ReadAt {
     Found(Record, Place),
     Nothing,

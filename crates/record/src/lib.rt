@@ -1,5 +1,7 @@
 // A record: one decoded instruction, a variant for each kind. It keeps every field that its bytes have.
 
+#![tactic(auto)]
+
 pub mod op;
 pub mod register;
 
@@ -9,14 +11,14 @@ use crate::op::{
 };
 
 // The form byte: does it set the flags, and is it 4 machine bytes long and not 2?
-#[derive(Drop)]
+#[derive(Clone, Copy)]
 pub struct Form {
     pub s: bool,
     pub wide: bool,
 }
 
 // 01
-#[derive(Drop)]
+#[derive(Clone, Copy)]
 pub struct ShiftedRegisterFields {
     pub op: DataOp,
     pub form: Form,
@@ -28,7 +30,7 @@ pub struct ShiftedRegisterFields {
 }
 
 // 02
-#[derive(Drop)]
+#[derive(Clone, Copy)]
 pub struct ConstantFields {
     pub op: DataOp,
     pub form: Form,
@@ -38,7 +40,7 @@ pub struct ConstantFields {
 }
 
 // 03: Rn shifted by the number in Rs
-#[derive(Drop)]
+#[derive(Clone, Copy)]
 pub struct RegisterShiftFields {
     pub shift: Shift,
     pub form: Form,
@@ -48,7 +50,7 @@ pub struct RegisterShiftFields {
 }
 
 // 04
-#[derive(Drop)]
+#[derive(Clone, Copy)]
 pub struct AddNumberFields {
     pub op: AddOp,
     pub form: Form,
@@ -58,7 +60,7 @@ pub struct AddNumberFields {
 }
 
 // 05
-#[derive(Drop)]
+#[derive(Clone, Copy)]
 pub struct MoveNumberFields {
     pub op: MoveOp,
     pub form: Form,
@@ -67,7 +69,7 @@ pub struct MoveNumberFields {
 }
 
 // 06
-#[derive(Drop)]
+#[derive(Clone, Copy)]
 pub struct UnaryFields {
     pub op: UnaryOp,
     pub form: Form,
@@ -76,7 +78,7 @@ pub struct UnaryFields {
 }
 
 // 07
-#[derive(Drop)]
+#[derive(Clone, Copy)]
 pub struct MultiplyFields {
     pub op: MultiplyOp,
     pub form: Form,
@@ -87,7 +89,7 @@ pub struct MultiplyFields {
 }
 
 // 08
-#[derive(Drop)]
+#[derive(Clone, Copy)]
 pub struct LongMultiplyFields {
     pub op: LongOp,
     pub form: Form,
@@ -98,7 +100,7 @@ pub struct LongMultiplyFields {
 }
 
 // 09
-#[derive(Drop)]
+#[derive(Clone, Copy)]
 pub struct DivideFields {
     pub op: DivideOp,
     pub form: Form,
@@ -108,7 +110,7 @@ pub struct DivideFields {
 }
 
 // 0A
-#[derive(Drop)]
+#[derive(Clone, Copy)]
 pub struct SaturateFields {
     pub op: SaturateOp,
     pub form: Form,
@@ -120,7 +122,7 @@ pub struct SaturateFields {
 }
 
 // 0B
-#[derive(Drop)]
+#[derive(Clone, Copy)]
 pub struct BitFieldFields {
     pub op: FieldOp,
     pub form: Form,
@@ -131,7 +133,7 @@ pub struct BitFieldFields {
 }
 
 // 0C
-#[derive(Drop)]
+#[derive(Clone, Copy)]
 pub struct ExtendFields {
     pub op: ExtendOp,
     pub form: Form,
@@ -141,7 +143,7 @@ pub struct ExtendFields {
 }
 
 // 0D
-#[derive(Drop)]
+#[derive(Clone, Copy)]
 pub struct AccessFields {
     pub op: AccessOp,
     pub form: Form,
@@ -152,7 +154,7 @@ pub struct AccessFields {
 }
 
 // 0E: the offset is Rm shifted left
-#[derive(Drop)]
+#[derive(Clone, Copy)]
 pub struct IndexedAccessFields {
     pub op: AccessOp,
     pub form: Form,
@@ -163,7 +165,7 @@ pub struct IndexedAccessFields {
 }
 
 // 0F
-#[derive(Drop)]
+#[derive(Clone, Copy)]
 pub struct DualAccessFields {
     pub op: DualOp,
     pub form: Form,
@@ -175,7 +177,7 @@ pub struct DualAccessFields {
 }
 
 // 10
-#[derive(Drop)]
+#[derive(Clone, Copy)]
 pub struct MultipleAccessFields {
     pub op: MultipleOp,
     pub form: Form,
@@ -185,7 +187,7 @@ pub struct MultipleAccessFields {
 }
 
 // 11
-#[derive(Drop)]
+#[derive(Clone, Copy)]
 pub struct BranchFields {
     pub op: BranchOp,
     pub form: Form,
@@ -194,7 +196,7 @@ pub struct BranchFields {
 }
 
 // 12
-#[derive(Drop)]
+#[derive(Clone, Copy)]
 pub struct RegisterBranchFields {
     pub op: RegisterOp,
     pub form: Form,
@@ -202,7 +204,7 @@ pub struct RegisterBranchFields {
 }
 
 // 13
-#[derive(Drop)]
+#[derive(Clone, Copy)]
 pub struct CompareBranchFields {
     pub op: CompareOp,
     pub form: Form,
@@ -211,7 +213,7 @@ pub struct CompareBranchFields {
 }
 
 // 14
-#[derive(Drop)]
+#[derive(Clone, Copy)]
 pub struct IfThenFields {
     pub form: Form,
     pub condition: u8,
@@ -220,7 +222,7 @@ pub struct IfThenFields {
 }
 
 // 16
-#[derive(Drop)]
+#[derive(Clone, Copy)]
 pub struct TableBranchFields {
     pub op: TableOp,
     pub form: Form,
@@ -228,7 +230,7 @@ pub struct TableBranchFields {
     pub rm: u8,
 }
 
-#[derive(Drop)]
+#[derive(Clone, Copy)]
 pub enum Record {
     ShiftedRegister(ShiftedRegisterFields),
     Constant(ConstantFields),

@@ -4,7 +4,7 @@ ghost use Rattle.std.specs.Prelude.{◌≡◌};
 ghost use Rattle.record.specs.Op.{data_op, data_code, is_lsl, is_mul, loads, loads_dual, loads_many, is_bl, is_blx, is_offset, is_ldr, shift, add_op, move_op, unary_op, multiply_op, long_op, divide_op, saturate_op, field_op, extend_op, access_op, dual_op, multiple_op, branch_op, register_op, compare_op, table_op, mode};
 
 // The operations of kinds 01 and 02.
-#[derive(Drop)]
+#[derive(Clone, Copy)]
 pub enum DataOp {
     Add,
     Adc,
@@ -24,7 +24,7 @@ pub enum DataOp {
     Teq,
 }
 
-#[derive(Drop)]
+#[derive(Clone, Copy)]
 pub enum Shift {
     Lsl,
     Lsr,
@@ -34,21 +34,21 @@ pub enum Shift {
 }
 
 // Kind 04.
-#[derive(Drop)]
+#[derive(Clone, Copy)]
 pub enum AddOp {
     Addw,
     Subw,
 }
 
 // Kind 05.
-#[derive(Drop)]
+#[derive(Clone, Copy)]
 pub enum MoveOp {
     Movw,
     Movt,
 }
 
 // Kind 06.
-#[derive(Drop)]
+#[derive(Clone, Copy)]
 pub enum UnaryOp {
     Clz,
     Rev,
@@ -58,7 +58,7 @@ pub enum UnaryOp {
 }
 
 // Kind 07.
-#[derive(Drop)]
+#[derive(Clone, Copy)]
 pub enum MultiplyOp {
     Mul,
     Mla,
@@ -66,7 +66,7 @@ pub enum MultiplyOp {
 }
 
 // Kind 08.
-#[derive(Drop)]
+#[derive(Clone, Copy)]
 pub enum LongOp {
     Umull,
     Umlal,
@@ -75,21 +75,21 @@ pub enum LongOp {
 }
 
 // Kind 09.
-#[derive(Drop)]
+#[derive(Clone, Copy)]
 pub enum DivideOp {
     Sdiv,
     Udiv,
 }
 
 // Kind 0A.
-#[derive(Drop)]
+#[derive(Clone, Copy)]
 pub enum SaturateOp {
     Ssat,
     Usat,
 }
 
 // Kind 0B.
-#[derive(Drop)]
+#[derive(Clone, Copy)]
 pub enum FieldOp {
     Bfc,
     Bfi,
@@ -98,7 +98,7 @@ pub enum FieldOp {
 }
 
 // Kind 0C.
-#[derive(Drop)]
+#[derive(Clone, Copy)]
 pub enum ExtendOp {
     Sxtb,
     Sxth,
@@ -107,7 +107,7 @@ pub enum ExtendOp {
 }
 
 // Kinds 0D and 0E.
-#[derive(Drop)]
+#[derive(Clone, Copy)]
 pub enum AccessOp {
     Ldr,
     Ldrb,
@@ -120,14 +120,14 @@ pub enum AccessOp {
 }
 
 // Kind 0F.
-#[derive(Drop)]
+#[derive(Clone, Copy)]
 pub enum DualOp {
     Ldrd,
     Strd,
 }
 
 // Kind 10.
-#[derive(Drop)]
+#[derive(Clone, Copy)]
 pub enum MultipleOp {
     Ldmia,
     Ldmdb,
@@ -136,34 +136,34 @@ pub enum MultipleOp {
 }
 
 // Kind 11.
-#[derive(Drop)]
+#[derive(Clone, Copy)]
 pub enum BranchOp {
     B,
     Bl,
 }
 
 // Kind 12.
-#[derive(Drop)]
+#[derive(Clone, Copy)]
 pub enum RegisterOp {
     Bx,
     Blx,
 }
 
 // Kind 13.
-#[derive(Drop)]
+#[derive(Clone, Copy)]
 pub enum CompareOp {
     Cbz,
     Cbnz,
 }
 
 // Kind 16.
-#[derive(Drop)]
+#[derive(Clone, Copy)]
 pub enum TableOp {
     Tbb,
     Tbh,
 }
 
-#[derive(Drop)]
+#[derive(Clone, Copy)]
 pub enum Mode {
     Offset,
     PreIndexed,

@@ -1,5 +1,7 @@
 // A register list: its members, and how many they are.
 
+#![tactic(auto)]
+
 ghost use Rattle.std.specs.Prelude.{◌≡◌};
 ghost use Rattle.register_list.specs.List.{member, members_below};
 

@@ -1,5 +1,7 @@
 // The program's whole work over slices: a listing's check and run, as text.
 
+#![tactic(auto)]
+
 ghost use Rattle.std.specs.Prelude.{◌≡◌, ◌++◌, ◌≤◌, length, take, drop};
 ghost use Rattle.rehearsal.specs.Program.{program_start, program_budget, ran, run_text, text_of, place_of, stored_of, told, rehearsed};
 ghost use Rattle.rehearsal.specs.Code.{page};
@@ -22,14 +24,14 @@ const MEMORY_END: u32 = 0x2000_8000;
 const BUDGET: u32 = 1_000_000;
 
 // The length of the text, the place of what was refused, and the stored place that the run leaves.
-#[derive(Drop)]
+#[derive(Clone, Copy)]
 pub struct Answer {
     pub length: usize,
     pub place: Place,
     pub stored: Stored,
 }
 
-#[derive(Drop)]
+#[derive(Clone, Copy)]
 pub struct Page {
     pub text: Text,
     pub place: Place,

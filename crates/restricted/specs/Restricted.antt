@@ -35,8 +35,8 @@ abbrev pub first_operand : DataOp → ℕ → Bool
 first_operand op rn = plain rn || eqb rn 13 && (adds op || compares op)
 
 -- "with Rd 13 if Rn is 13 and any shift is LSL 0 to 3"
-abbrev pub result : DataOp → ℕ → ℕ → Bool → Bool
-result op rd rn small = plain rd || eqb rd 13 && adds op && eqb rn 13 && small
+abbrev pub result_register : DataOp → ℕ → ℕ → Bool → Bool
+result_register op rd rn small = plain rd || eqb rd 13 && adds op && eqb rn 13 && small
 
 -- "MOV register without shift or S, any Rd and Rm; ADD R15, R15, Rm without shift or S, Rm not 13 or 15"
 abbrev pub shifted_register_allowed : ShiftedRegisterFields → Bool
@@ -44,10 +44,10 @@ shifted_register_allowed d =
     let straight = is_lsl d.shift && eqb d.amount 0 && not d.form.s in
     eqb (data_code d.op) 10 && straight
     || eqb (data_code d.op) 0 && straight && eqb d.rd 15 && eqb d.rn 15 && plain d.rm
-    || first_operand d.op d.rn && result d.op d.rd d.rn (is_lsl d.shift && leb d.amount 3) && plain d.rm
+    || first_operand d.op d.rn && result_register d.op d.rd d.rn (is_lsl d.shift && leb d.amount 3) && plain d.rm
 
 abbrev pub constant_allowed : ConstantFields → Bool
-constant_allowed d = first_operand d.op d.rn && result d.op d.rd d.rn true
+constant_allowed d = first_operand d.op d.rn && result_register d.op d.rd d.rn true
 
 -- "kind 04 with Rn 13 (then Rd may be 13) or with Rn 15"
 abbrev pub add_number_allowed : AddNumberFields → Bool

@@ -1,5 +1,7 @@
 // Is a record allowed, or restricted?
 
+#![tactic(auto)]
+
 mod parts;
 
 ghost use Rattle.std.specs.Prelude.{◌≡◌};

@@ -1,7 +1,7 @@
 // The kinds that take R13 or R15 in some places, or restrict more than those.
 
 ghost use Rattle.std.specs.Prelude.{◌≡◌};
-ghost use Rattle.restricted.specs.Restricted.{plain, first_operand, result, transferred};
+ghost use Rattle.restricted.specs.Restricted.{plain, first_operand, result_register, transferred};
 ghost use Rattle.restricted.specs.Restricted.{shifted_register_allowed, constant_allowed, add_number_allowed, multiply_allowed, long_multiply_allowed, access_allowed, indexed_access_allowed, dual_access_allowed, multiple_access_allowed};
 
 use record::op::{AccessOp, DataOp};
@@ -11,13 +11,13 @@ use record::{
 };
 
 pub fn plain_of(n: u8) -> bool
-    ensures* { λ r. ⌜ r ≡ plain n ⌝ }
+    ensures { result ≡ plain n }
 {
     !((n == register::SP) | (n == register::PC))
 }
 
 pub fn shifted_register_of(d: ShiftedRegisterFields) -> bool
-    ensures* { λ r. ⌜ r ≡ shifted_register_allowed d ⌝ }
+    ensures { result ≡ shifted_register_allowed d }
 {
     let op = d.op;
     let shift = d.shift;
@@ -31,14 +31,14 @@ pub fn shifted_register_of(d: ShiftedRegisterFields) -> bool
 }
 
 pub fn constant_of(d: ConstantFields) -> bool
-    ensures* { λ r. ⌜ r ≡ constant_allowed d ⌝ }
+    ensures { result ≡ constant_allowed d }
 {
     let op = d.op;
     first_operand_of(op, d.rn) & result_of(op, d.rd, d.rn, true)
 }
 
 fn first_operand_of(op: DataOp, rn: u8) -> bool
-    ensures* { λ r. ⌜ r ≡ first_operand op rn ⌝ }
+    ensures { result ≡ first_operand op rn }
 {
     let code = record::op::data_code_of(op);
     plain_of(rn)
@@ -46,20 +46,20 @@ fn first_operand_of(op: DataOp, rn: u8) -> bool
 }
 
 fn result_of(op: DataOp, rd: u8, rn: u8, small: bool) -> bool
-    ensures* { λ r. ⌜ r ≡ result op rd rn small ⌝ }
+    ensures { result ≡ result_register op rd rn small }
 {
     let code = record::op::data_code_of(op);
     plain_of(rd) | (rd == register::SP) & ((code == 0) | (code == 2)) & (rn == register::SP) & small
 }
 
 pub fn add_number_of(d: AddNumberFields) -> bool
-    ensures* { λ r. ⌜ r ≡ add_number_allowed d ⌝ }
+    ensures { result ≡ add_number_allowed d }
 {
     plain_of(d.rd) | (d.rd == register::SP) & (d.rn == register::SP)
 }
 
 pub fn multiply_of(d: MultiplyFields) -> bool
-    ensures* { λ r. ⌜ r ≡ multiply_allowed d ⌝ }
+    ensures { result ≡ multiply_allowed d }
 {
     plain_of(d.rd)
         & plain_of(d.rn)
@@ -69,13 +69,13 @@ pub fn multiply_of(d: MultiplyFields) -> bool
 }
 
 pub fn long_multiply_of(d: LongMultiplyFields) -> bool
-    ensures* { λ r. ⌜ r ≡ long_multiply_allowed d ⌝ }
+    ensures { result ≡ long_multiply_allowed d }
 {
     plain_of(d.low) & plain_of(d.high) & plain_of(d.rn) & plain_of(d.rm) & !(d.low == d.high)
 }
 
 fn transferred_of(op: AccessOp, rt: u8) -> bool
-    ensures* { λ r. ⌜ r ≡ transferred op rt ⌝ }
+    ensures { result ≡ transferred op rt }
 {
     match op {
         AccessOp::Ldr => true,
@@ -90,7 +90,7 @@ fn transferred_of(op: AccessOp, rt: u8) -> bool
 }
 
 pub fn access_of(d: AccessFields) -> bool
-    ensures* { λ r. ⌜ r ≡ access_allowed d ⌝ }
+    ensures { result ≡ access_allowed d }
 {
     let op = d.op;
     let mode = d.mode;
@@ -101,14 +101,14 @@ pub fn access_of(d: AccessFields) -> bool
 }
 
 pub fn indexed_access_of(d: IndexedAccessFields) -> bool
-    ensures* { λ r. ⌜ r ≡ indexed_access_allowed d ⌝ }
+    ensures { result ≡ indexed_access_allowed d }
 {
     let op = d.op;
     transferred_of(op, d.rt) & !(d.rn == register::PC) & plain_of(d.rm)
 }
 
 pub fn dual_access_of(d: DualAccessFields) -> bool
-    ensures* { λ r. ⌜ r ≡ dual_access_allowed d ⌝ }
+    ensures { result ≡ dual_access_allowed d }
 {
     let op = d.op;
     let mode = d.mode;
@@ -122,7 +122,7 @@ pub fn dual_access_of(d: DualAccessFields) -> bool
 }
 
 pub fn multiple_access_of(d: MultipleAccessFields) -> bool
-    ensures* { λ r. ⌜ r ≡ multiple_access_allowed d ⌝ }
+    ensures { result ≡ multiple_access_allowed d }
 {
     let op = d.op;
     let list = d.list;

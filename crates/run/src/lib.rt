@@ -1,5 +1,7 @@
 // The run of a listing: its steps repeated, within a budget. The running machine has the place of the record at R15 beside it.
 
+#![tactic(auto)]
+
 ghost use Rattle.std.specs.Prelude.{true, ◌≡◌, length};
 ghost use Rattle.landing.specs.Code.{table};
 ghost use Rattle.listing.specs.Check.{checked};
@@ -21,7 +23,7 @@ use setup::Setup;
 use waiting::Waiting;
 
 // How a run ended: its number and place, the count of the steps done, and the machine after them.
-#[derive(Drop)]
+#[derive(Clone, Copy)]
 pub struct Ran {
     pub number: u32,
     pub place: Place,
@@ -30,20 +32,20 @@ pub struct Ran {
 }
 
 // The place of the record at R15, the listing's length at the end address, or "none".
-#[derive(Drop)]
+#[derive(Clone, Copy)]
 pub enum Stored {
     In(Place),
     None,
 }
 
-#[derive(Drop)]
+#[derive(Clone, Copy)]
 pub struct Running {
     pub machine: Machine,
     pub stored: Stored,
 }
 
 // The same of a running machine.
-#[derive(Drop)]
+#[derive(Clone, Copy)]
 pub struct Halted {
     pub number: u32,
     pub place: Place,
@@ -52,7 +54,7 @@ pub struct Halted {
 }
 
 // What a machine faces.
-#[derive(Drop)]
+#[derive(Clone, Copy)]
 pub enum Sight {
     AtRecord(Place),
     AtEnd,

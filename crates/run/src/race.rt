@@ -10,7 +10,7 @@ use setup::Setup;
 use waiting::Waiting;
 
 // Where the rounds stopped: the number of a refused step, or 0; the place of the record there; the steps done; what waits.
-#[derive(Drop)]
+#[derive(Clone, Copy)]
 pub struct Raced {
     pub number: u32,
     pub place: usize,
@@ -19,7 +19,7 @@ pub struct Raced {
 }
 
 // A round: the number of a refused step, or 0; then the place after it, the kind there, and what waits.
-#[derive(Drop)]
+#[derive(Clone, Copy)]
 pub struct Stride {
     pub number: u32,
     pub place: usize,

@@ -14,7 +14,7 @@ use layout::{Address, Point, Seen};
 use reading::Place;
 use waiting::Waiting;
 
-#[derive(Drop)]
+#[derive(Clone, Copy)]
 pub struct Seat {
     pub stored: Stored,
     pub due: Waiting,

@@ -1,5 +1,5 @@
 -- Bounds past the ends of a width bound its numbers no more than those ends do.
-use Prim.Native.Nat.{ℕ, suc, ◌-◌, ◌^◌, ◌≤◌, ◌<◌, min}
+use Prim.Native.Nat.{ℕ, zero, suc, ◌-◌, ◌^◌, ◌≤◌, ◌<◌, min}
 use mathlib.Core.Path.{◌≡◌, refl, ap}
 use mathlib.Core.Bool.{false}
 use native.Mathlib.Omega.{arith}
@@ -29,6 +29,7 @@ most_held n least z f =
     (λ h. rw (none_above_width k z f (omega arith), none_above_width (2 ^ n - 1) z f (omega arith)))
 
 negated : (k : ℕ) → 0 < k → neg_ℤ (pos k) ≡ negsuc (k - 1)
+negated zero h = elim h [ ]
 negated (suc k) h = ap negsuc (omega arith)
 
 pub least_held : (n : ℕ) (most z : ℤ) → SFits w32 z

@@ -1,9 +1,11 @@
 // SSAT and USAT of an i32, and whether the number was saturated.
 
+#![tactic(auto)]
+
 ghost use Rattle.std.specs.Prelude.{◌≡◌, ◌-◌, ◌^◌, min, pos};
 ghost use Rattle.saturate.specs.Saturate.{SSAT, USAT, saturated_to};
 
-#[derive(Drop)]
+#[derive(Clone, Copy)]
 pub struct Saturated {
     pub value: i32,
     pub saturated: bool,

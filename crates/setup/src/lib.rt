@@ -1,9 +1,11 @@
 // What is fixed for a rehearsal, and the memory that it allows.
 
+#![tactic(auto)]
+
 ghost use Rattle.std.specs.Prelude.{◌≡◌};
 ghost use Rattle.setup.specs.Setup.{at_base, fits};
 
-#[derive(Drop)]
+#[derive(Clone, Copy)]
 pub struct Setup {
     // the address of memory's first byte
     pub base: u32,

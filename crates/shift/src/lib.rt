@@ -1,9 +1,11 @@
 // The shifter: a word shifted by any amount, and the carry that it gives.
 
+#![tactic(auto)]
+
 ghost use Rattle.std.specs.Prelude.{◌≡◌, ◌%◌};
 ghost use Rattle.shift.specs.Shift.{LSL, LSR, ASR, ROR, RRX, rotated};
 
-#[derive(Drop)]
+#[derive(Clone, Copy)]
 pub struct Shifted {
     pub value: u32,
     pub carry: bool,

@@ -1,9 +1,11 @@
 // Sums and differences with carry: ADD ADC SUB SBC RSB CMP CMN are said by these two.
 
+#![tactic(auto)]
+
 ghost use Rattle.std.specs.Prelude.{◌≡◌};
 ghost use Rattle.sum.specs.Sum.{add_with_carry, subtract_with_carry};
 
-#[derive(Drop)]
+#[derive(Clone, Copy)]
 pub struct Sum {
     pub value: u32,
     pub carry: bool,

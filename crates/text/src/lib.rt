@@ -1,5 +1,7 @@
 // The text of the program, by value; numbers and lines as text.
 
+#![tactic(auto)]
+
 ghost use Rattle.std.specs.Prelude.{◌≡◌, ◌<◌};
 ghost use Rattle.text.specs.Text.{digit, decimal, hex};
 ghost use Rattle.text.specs.Code.{blank, pushed, appended};
@@ -7,7 +9,7 @@ ghost use Rattle.text.specs.Code.{blank, pushed, appended};
 pub mod lines;
 
 // The longest text of a run, with two numbers of ten digits, has 242 bytes.
-#[derive(Drop)]
+#[derive(Clone, Copy)]
 pub struct Text {
     pub bytes: [u8; 256],
     pub length: usize,

@@ -1,5 +1,7 @@
 // Loads and stores: how wide, from where, in which order, and whether they may be made.
 
+#![tactic(auto)]
+
 ghost use Rattle.std.specs.Prelude.{◌≡◌, ◌*◌, ◌%◌, ◌^◌, length, ◌==◌};
 ghost use Rattle.transfer.specs.Transfer.{width, load_value, after_store, reached, multiple, alignment, access_refusal, list_size, lower, lowest_address, new_base, slot, list_stored, entry_width, entry_address, table_target};
 ghost use Rattle.word.specs.Choice.{if◌then◌else◌};
@@ -10,7 +12,7 @@ use record::op::{AccessOp, Mode, MultipleOp, TableOp};
 use setup::Setup;
 
 // An access of this alignment wants a multiple of 1, of 2 or of 4.
-#[derive(Drop)]
+#[derive(Clone, Copy)]
 pub enum Alignment {
     Byte,
     Half,

@@ -1,10 +1,12 @@
 // The waiting conditions: those of a block that are still to be used.
 
+#![tactic(auto)]
+
 ghost use Rattle.std.specs.Prelude.{◌≡◌};
 ghost use Rattle.waiting.specs.Waiting.{nothing, waiting_count, dropped, inverse, placed, block, same, good_place, good_waiting};
 
 // A place that holds no condition is 15.
-#[derive(Drop)]
+#[derive(Clone, Copy)]
 pub struct Waiting {
     pub first: u8,
     pub second: u8,

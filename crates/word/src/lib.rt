@@ -1,5 +1,7 @@
 // What all of the arithmetic stands on: a word's bits, and a word as a signed number.
 
+#![tactic(auto)]
+
 ghost use Rattle.std.specs.Prelude.{◌≡◌, ◌-◌, ◌%◌, ◌^◌};
 ghost use Rattle.word.specs.Word.{one_if, bit, signed, signed_in, wrapped};
 

@@ -1,0 +1,6 @@
+use Rattle.std.proofs.Common.{arith}
+use Rattle.address.proofs.Laws.{all_but_bit}
+use Rattle.address.proofs.even.Goals as goal
+
+pub returns : goal.returns
+returns c = all_but_bit 0 c.args.x (omega arith) (omega arith)

@@ -1,0 +1,6 @@
+use borrow.Author.Rules.{rules}
+use Rattle.fields.proofs.parts.constant_of.Goals as goal
+
+pub returns : goal.returns
+returns c =
+    simp (c.is_constant.ensures, c.data_operands_of.ensures)

@@ -1,0 +1,6 @@
+use borrow.Author.Rules.{rules}
+use Rattle.fields.proofs.parts.data_operands_of.Goals as goal
+
+pub returns : goal.returns
+returns c =
+    simp c.data_code_of-code.ensures

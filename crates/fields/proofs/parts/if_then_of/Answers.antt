@@ -1,0 +1,6 @@
+use borrow.Author.Rules.{rules}
+use Rattle.fields.proofs.parts.if_then_of.Goals as goal
+
+pub returns : goal.returns
+returns c =
+    simp c.elses_fit_of.ensures

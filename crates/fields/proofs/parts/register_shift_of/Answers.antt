@@ -1,0 +1,6 @@
+use borrow.Author.Rules.{rules}
+use Rattle.fields.proofs.parts.register_shift_of.Goals as goal
+
+pub returns : goal.returns
+returns c =
+    simp c.turns_of.ensures

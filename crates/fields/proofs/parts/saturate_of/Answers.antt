@@ -1,0 +1,6 @@
+use borrow.Author.Rules.{rules}
+use Rattle.fields.proofs.parts.saturate_of.Goals as goal
+
+pub returns : goal.returns
+returns c =
+    simp (c.saturated_shift_of.ensures, c.saturated_bits_of.ensures)

@@ -1,0 +1,6 @@
+use borrow.Author.Rules.{rules}
+use Rattle.fields.proofs.parts.shifted_register_of.Goals as goal
+
+pub returns : goal.returns
+returns c =
+    simp (c.amount_of.ensures, c.data_operands_of.ensures)

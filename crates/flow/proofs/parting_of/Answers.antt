@@ -1,0 +1,6 @@
+use Rattle.std.proofs.Common.{rules}
+use Rattle.flow.proofs.parting_of.Goals as goal
+
+pub returns : goal.returns
+returns c =
+    simp c.form_length_of.ensures

@@ -1,0 +1,6 @@
+use Rattle.std.proofs.Common.{rules}
+use Rattle.flow.proofs.to_pc_of.Goals as goal
+
+pub returns : goal.returns
+returns c =
+    simp c.data_code_of-code.ensures

@@ -1,0 +1,8 @@
+use Rattle.flow.specs.Flow.{way}
+use Rattle.std.proofs.Common.{rules}
+use Rattle.flow.proofs.way_of.Goals as goal
+
+pub returns : goal.returns
+unfolding way
+returns c =
+    simp c.traits_of.ensures

@@ -1,0 +1,8 @@
+use Rattle.image.specs.Image.{machine_of}
+use borrow.Author.Rules.{rules}
+use Rattle.image.proofs.read.Goals as goal
+
+pub returns : goal.returns
+unfolding machine_of
+returns c =
+    simp (c.waiting_from.ensures, c.flags_from.ensures, c.registers_of-registers.ensures)

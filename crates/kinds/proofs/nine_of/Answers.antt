@@ -1,0 +1,16 @@
+use borrow.Author.Rules.{rules}
+use Rattle.kinds.proofs.nine_of.Goals as goal
+
+pub returns : goal.returns
+returns c =
+    rw (
+      c.byte_at-9.ensures,
+      c.byte_at-8.ensures,
+      c.byte_at-7.ensures,
+      c.byte_at-6.ensures,
+      c.byte_at-5.ensures,
+      c.byte_at-4.ensures,
+      c.byte_at-3.ensures,
+      c.byte_at-2.ensures,
+      c.byte_at.ensures,
+    )

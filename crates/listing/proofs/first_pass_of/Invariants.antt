@@ -1,0 +1,15 @@
+use mathlib.Core.Path.{◌≡◌, refl, sym, ◌∙◌}
+use native.Mathlib.Omega.{arith}
+use borrow.Author.Rules.{rules}
+use Rattle.layout.proofs.Points.{Within, within_start, within_next}
+use Rattle.layout.proofs.Turns.{passed, ended, stopped, ends_last, stops_last}
+use Rattle.listing.proofs.Passes.{pass_on, pass_last, pass_none}
+use Rattle.layout.specs.Layout.{meets, walk, layout}
+use Rattle.listing.specs.Check.{fault, lowest, first_pass}
+use Rattle.listing.proofs.first_pass_of.Given as goal
+
+abbrev pub invariant-loop-left : goal.invariant-loop-left
+invariant-loop-left l = Within l.listing l.base l.point × (lowest (λ p. fault (meets l.listing p) p) (walk l.left l.listing l.point) ≡ first_pass l.listing l.base)
+
+abbrev pub decreases-loop-left : goal.decreases-loop-left
+decreases-loop-left l = l.left

@@ -1,0 +1,15 @@
+use lib.ListN.{get_or-eq_default}
+use mathlib.Core.List.{[], ◌∷◌}
+use mathlib.Core.Path.{sym}
+use Rattle.word.proofs.Cases.{not_below}
+use Rattle.record.specs.declared.op.Mode.TheVariants.{Offset, PreIndexed, PostIndexed}
+use Rattle.record.proofs.op.mode_of.Goals as goal
+
+pub returns-in_default : goal.returns-in_default
+returns-in_default c = sym (get_or-eq_default (Offset ∷ PreIndexed ∷ []) PostIndexed (not_below 2 c.args.code c.in_default.in_default-own.rest))
+
+pub returns-in-0 : goal.returns-in-0
+returns-in-0 c = rw c.in-0.is
+
+pub returns-in-1 : goal.returns-in-1
+returns-in-1 c = rw c.in-1.is

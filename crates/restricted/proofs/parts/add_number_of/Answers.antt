@@ -1,0 +1,6 @@
+use borrow.Author.Rules.{rules}
+use Rattle.restricted.proofs.parts.add_number_of.Goals as goal
+
+pub returns : goal.returns
+returns c =
+    simp c.plain_of.ensures

@@ -1,0 +1,6 @@
+use borrow.Author.Rules.{rules}
+use Rattle.restricted.proofs.parts.constant_of.Goals as goal
+
+pub returns : goal.returns
+returns c =
+    simp (c.result_of.ensures, c.first_operand_of.ensures)

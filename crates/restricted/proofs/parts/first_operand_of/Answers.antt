@@ -1,0 +1,6 @@
+use borrow.Author.Rules.{rules}
+use Rattle.restricted.proofs.parts.first_operand_of.Goals as goal
+
+pub returns : goal.returns
+returns c =
+    simp (c.plain_of.ensures, c.data_code_of-code.ensures)

@@ -1,0 +1,20 @@
+use Prim.Native.Nat.{suc, ◌+◌, ◌-◌, ◌≤◌}
+use mathlib.Core.Path.{◌≡◌, refl, sym, ap, ◌∙◌}
+use native.Mathlib.Omega.{arith}
+use borrow.Author.Rules.{rules}
+use borrow.Author.Tests.{ne_eqb}
+use lib.ListN.{length}
+use Rattle.run.specs.Run.{rehearsal, rounds}
+use Rattle.run.specs.Code.{Fit, parts_of, At, counted}
+use Rattle.run.proofs.Spots.{at_spot}
+use Rattle.run.proofs.Racing.{over_now, none_left}
+use Rattle.run.proofs.race.race.Given as goal
+
+abbrev pub invariant-loop-count : goal.invariant-loop-count
+invariant-loop-count l = let h = rehearsal l.listing l.base l.setup in
+    let s = parts_of l.registers l.marks l.waiting l.memory in
+    (l.count ≤ l.budget) × (length l.memory ≡ length l.initial.memory) × Fit h s × At h s.machine l.place l.kind
+    × (counted h l.count (rounds (l.budget - l.count) h s) ≡ counted h 0 (rounds l.budget h (parts_of l.initial.registers l.initial.marks l.initial.waiting l.initial.memory)))
+
+abbrev pub decreases-loop-count : goal.decreases-loop-count
+decreases-loop-count l = l.budget - l.count

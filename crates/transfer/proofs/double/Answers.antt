@@ -1,0 +1,5 @@
+use Rattle.std.proofs.Common.{arith, rules}
+use Rattle.transfer.proofs.double.Goals as goal
+
+pub returns : goal.returns
+returns c = rw c.wrapping_add_u32.ensures.value (omega arith)

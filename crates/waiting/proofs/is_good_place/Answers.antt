@@ -1,0 +1,6 @@
+use borrow.Author.Rules.{rules}
+use Rattle.waiting.proofs.is_good_place.Goals as goal
+
+pub returns : goal.returns
+returns c =
+    simp c.inverse_of.ensures

@@ -1,0 +1,6 @@
+use borrow.Author.Rules.{rules}
+use Rattle.waiting.proofs.place.Goals as goal
+
+pub returns-then-otherwise : goal.returns-then-otherwise
+returns-then-otherwise c =
+    simp (c.inverse_of.ensures, c.if-otherwise.true, c.if-within.true)
