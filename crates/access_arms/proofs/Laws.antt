@@ -1,6 +1,6 @@
 -- What the step's definitions make of an access on a machine that is put together from its parts.
 use Rattle.std.proofs.Common.{◌≡◌, ℕ, zero, suc, ◌+◌, Bool, true, false, not, ◌&&◌, eqb, List, refl, arith}
-use Rattle.word.specs.Choice.{if◌then◌else◌}
+use Rattle.std.specs.Bool.{if◌then◌else◌}
 use Rattle.word.specs.Word.{bit}
 use Rattle.flags.specs.declared.Flags.{Flags}
 use Rattle.waiting.specs.declared.Waiting.{Waiting}

@@ -1,7 +1,7 @@
 -- For the code: where an access of kinds 0D and 0E reaches, which one function then makes for both; registers with a base written back,
 -- and with a list loaded.
 use Rattle.std.specs.Prelude.{◌≡◌, ℕ, zero, suc, ◌<◌, ◌≤◌, Bool, ◌&&◌, List}
-use Rattle.word.specs.Choice.{if◌then◌else◌}
+use Rattle.std.specs.Bool.{if◌then◌else◌}
 use Rattle.word.specs.Word.{bit}
 use Rattle.little.specs.Little.{byte}
 use Rattle.flags.specs.declared.Flags.{Flags}

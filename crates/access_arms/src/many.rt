@@ -1,7 +1,7 @@
 // Kind 10.
 
 ghost use Rattle.std.specs.Prelude.{◌≡◌, ◌<◌};
-ghost use Rattle.word.specs.Choice.{if◌then◌else◌};
+ghost use Rattle.std.specs.Prelude.{if◌then◌else◌};
 ghost use Rattle.memory.specs.Memory.{loaded};
 ghost use Rattle.machine.specs.Access.{multiple_made};
 ghost use Rattle.machine.specs.Machine.{written};

@@ -1,6 +1,6 @@
 -- What the definitions of kinds 11 to 13 and 16 make of a machine that is put together from its parts.
 use Rattle.std.proofs.Common.{◌≡◌, ℕ, ◌+◌, ◌%◌, ◌^◌, Bool, true, false, eqb, List, length, get_or, set, refl, arith, get_or-set_other, set-set}
-use Rattle.word.specs.Choice.{if◌then◌else◌}
+use Rattle.std.specs.Bool.{if◌then◌else◌}
 use Rattle.word.specs.Word.{bit, wrapped}
 use Rattle.address.specs.Address.{linked, moved}
 use Rattle.flags.specs.declared.Flags.{Flags}

@@ -1,6 +1,6 @@
 -- For the code of a run: the registers at the next record, with a link behind them.
 use Rattle.std.specs.Prelude.{ℕ, Bool, List, slice_index}
-use Rattle.word.specs.Choice.{if◌then◌else◌}
+use Rattle.std.specs.Bool.{if◌then◌else◌}
 use Rattle.address.specs.Address.{linked}
 use Rattle.machine.specs.Machine.{PC, LR}
 use Rattle.lent.specs.Lent.{put_in}

@@ -1,6 +1,6 @@
 -- "Constants of 02: an 8-bit number shifted left, 00XY00XY, XY00XY00 or XYXYXYXY."
 use Rattle.std.specs.Prelude.{ℕ, zero, suc, ◌*◌, ◌/◌, ◌%◌, ◌^◌, Bool, false, ◌&&◌, ◌||◌, ltb, eqb}
-use Rattle.word.specs.Choice.{if◌then◌else◌}
+use Rattle.std.specs.Bool.{if◌then◌else◌}
 use Rattle.word.specs.Word.{negative}
 
 -- does `test` hold of some number below n?

@@ -6,7 +6,7 @@ use mathlib.Core.Path.{◌≡◌, refl, ap}
 use lib.Dec.{ltb}
 use lib.ListN.{length}
 use native.Mathlib.Omega.{arith}
-use Rattle.word.specs.Choice.{if◌then◌else◌}
+use Rattle.std.specs.Bool.{if◌then◌else◌}
 use Rattle.sum.specs.declared.Sum.{Sum}
 use Rattle.product.specs.declared.Long.{Long}
 use Rattle.flags.specs.declared.Flags.{Flags}

@@ -4,7 +4,7 @@
 
 ghost use Rattle.std.specs.Prelude.{◌<◌, ltb};
 ghost use Rattle.lent.specs.Lent.{flags_in, put_in, Settled, OfKind, ObeysOn, ObeysMarking};
-ghost use Rattle.word.specs.Choice.{if◌then◌else◌};
+ghost use Rattle.std.specs.Prelude.{if◌then◌else◌};
 ghost use Rattle.record.specs.Op.{data_code};
 ghost use Rattle.machine.specs.Machine.{PC};
 ghost use Rattle.data_arms.specs.Data.{Operates, Prepared};

@@ -6,7 +6,7 @@ use borrow.Author.Tests.{eqb-true, eqb-false, eq-eqb}
 use lib.Dec.{eqb}
 use Rattle.layout.specs.Layout.{AtAddress, Stands, End, Stray}
 use Rattle.machine.specs.Machine.{Outcome}
-use Rattle.word.specs.Choice.{if◌then◌else◌}
+use Rattle.std.specs.Bool.{if◌then◌else◌}
 use Rattle.record.specs.declared.Record.{Record}
 use Rattle.layout.specs.declared.Point.{Point}
 use Rattle.run.specs.Run.{Rehearsal, State, Passage, Course, Over, Done, faced, attempted, round_at, round, over, led_by, continued, used_up, rounds}

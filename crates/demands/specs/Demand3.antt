@@ -2,7 +2,7 @@
 -- any registers, flags, memory bytes and budget the run never ends with 1 to 4; before every step the waiting conditions are those
 -- that the layout gives; it ends with 8 only directly after a step that took its next address from a register or from memory."
 use Rattle.std.specs.Prelude.{ℕ, ◌≤◌, true, false, List, [], ◌∷◌, ◌≡◌, eqb, length}
-use Rattle.word.specs.Choice.{if◌then◌else◌}
+use Rattle.std.specs.Bool.{if◌then◌else◌}
 use Rattle.waiting.specs.Waiting.{nothing}
 use Rattle.record.specs.declared.Record.{Record}
 use Rattle.flow.specs.declared.Way.TheVariants.{Taken}

@@ -8,7 +8,7 @@ use borrow.Author.Tests.{le-leb, lt-leb, lt-ltb, le-ltb}
 use lib.Bits.{bit_and, bit_or, and_mask, or_lt, and_le_l, or_shifted_r}
 use lib.Dec.{leb, ltb}
 use lib.Pow.{pow_pos, pow_mono, high_ones}
-use Rattle.word.specs.Choice.{if◌then◌else◌}
+use Rattle.std.specs.Bool.{if◌then◌else◌}
 use Rattle.word.specs.Word.{bit, signed_in, wrapped}
 use Rattle.word.proofs.Cases.{cases, le_or_gt}
 use Rattle.word.proofs.Integers.{minus_more}

@@ -1,6 +1,6 @@
 -- Bit fields by their lowest bit and their width, and numbers of 8 or 16 bits made words.
 use Rattle.std.specs.Prelude.{ℕ, ◌+◌, ◌-◌, ◌/◌, ◌%◌, ◌^◌, ◌&&◌, leb, ltb}
-use Rattle.word.specs.Choice.{if◌then◌else◌}
+use Rattle.std.specs.Bool.{if◌then◌else◌}
 use Rattle.word.specs.Word.{bit, from_bits, signed_in, wrapped}
 use Rattle.shift.specs.Shift.{rotated}
 

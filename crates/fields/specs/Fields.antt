@@ -1,7 +1,7 @@
 -- What 01 says under "Records" of the fields of each kind; a record with another field is number 2.
 use Rattle.std.specs.Prelude.{ℕ, ◌+◌, ◌-◌, ◌%◌, ◌^◌, Bool, true, false, not, ◌&&◌, ◌||◌, leb, ltb, eqb, ℤ, pos, neg_ℤ}
 use Rattle.std.specs.Int.Signed.{le_z}
-use Rattle.word.specs.Choice.{if◌then◌else◌}
+use Rattle.std.specs.Bool.{if◌then◌else◌}
 use Rattle.word.specs.Word.{wrapped}
 use Rattle.constant.specs.Constant.{constant}
 use Rattle.record.specs.Op.{data_code}

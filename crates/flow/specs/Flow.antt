@@ -1,6 +1,6 @@
 -- What a record does to the way through a listing: its length, where it goes, the spots that it may not take, the block that it opens.
 use Rattle.std.specs.Prelude.{ℕ, ◌+◌, ◌%◌, ◌^◌, Bool, true, false, not, ◌&&◌, ◌||◌, pos, ◌==◌, nat_le}
-use Rattle.word.specs.Choice.{if◌then◌else◌}
+use Rattle.std.specs.Bool.{if◌then◌else◌}
 use Rattle.address.specs.Address.{moved}
 use Rattle.register_list.specs.List.{member}
 use Rattle.record.specs.Op.{data_code, is_bl, is_blx, is_ldr, is_mul, loads_many}

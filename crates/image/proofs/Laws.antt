@@ -6,7 +6,7 @@ use mathlib.Core.List.{List}
 use native.Mathlib.Omega.{arith}
 use lib.ListN.{set}
 use Rattle.little.specs.Little.{number_at}
-use Rattle.word.specs.Choice.{if◌then◌else◌}
+use Rattle.std.specs.Bool.{if◌then◌else◌}
 use Rattle.waiting.specs.declared.Waiting.{Waiting}
 use Rattle.waiting.specs.Waiting.{none, waiting_count}
 use lib.Dec.{eqb}
@@ -16,7 +16,7 @@ pub words_next : (i : ℕ) (image : List ℕ) → set (words i image) i (number_
 unfolding words
 words_next i image = let s : i + 1 ≡ suc i = omega arith in rw s
 
-one_of_five : (a b c d : Bool) → (if a then 0 else if b then 1 else if c then 2 else if d then 3 else 4) ≤ 4
+one_of_five : (a b c d : Bool) → (if a then 0 else (if b then 1 else (if c then 2 else (if d then 3 else 4)))) ≤ 4
 one_of_five true b c d = omega arith
 one_of_five false true c d = omega arith
 one_of_five false false true d = omega arith

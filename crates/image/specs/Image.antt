@@ -1,7 +1,7 @@
 -- A machine as 74 bytes, as include/simbhoket.h says: "R0 to R15 as little-endian words, N Z C V Q a byte each (0 or 1), a count 0 to 4
 -- of waiting conditions, four conditions (0 past the count)".
 use Rattle.std.specs.Prelude.{ℕ, zero, suc, ◌+◌, ◌*◌, Bool, ◌&&◌, List, leb, ltb, eqb, length, set, replicate}
-use Rattle.word.specs.Choice.{if◌then◌else◌}
+use Rattle.std.specs.Bool.{if◌then◌else◌}
 use Rattle.word.specs.Word.{one_if}
 use Rattle.little.specs.Little.{byte, number_at}
 use Rattle.flags.specs.declared.Flags.{Flags}

@@ -1,6 +1,6 @@
 -- What the C functions answer, as include/simbhoket.h says it.
 use Rattle.std.specs.Prelude.{ℕ, ◌+◌, ◌*◌, ◌^◌, ◌&&◌, List, eqb, length}
-use Rattle.word.specs.Choice.{if◌then◌else◌}
+use Rattle.std.specs.Bool.{if◌then◌else◌}
 use Rattle.flow.specs.Flow.{machine_length, way, target}
 use Rattle.flow.specs.declared.Way.{Way}
 use Rattle.flow.specs.declared.Way.TheVariants.{Next, Direct, Taken, Fills}

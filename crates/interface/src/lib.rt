@@ -5,7 +5,7 @@ ghost use Rattle.setup.specs.Setup.{at_base};
 ghost use Rattle.little.specs.Little.{byte};
 ghost use Rattle.judge.specs.Judge.{judged};
 ghost use Rattle.reading.specs.Reading.{read_one, read_at};
-ghost use Rattle.word.specs.Choice.{if◌then◌else◌};
+ghost use Rattle.std.specs.Prelude.{if◌then◌else◌};
 ghost use Rattle.image.specs.Image.{image_of};
 ghost use Rattle.listing.specs.Check.{checked};
 ghost use Rattle.run.specs.Run.{rehearsal};

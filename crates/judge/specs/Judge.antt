@@ -1,6 +1,6 @@
 -- "The lowest number that applies" of 2, 3 and 4 to a record by itself, where so many conditions wait; 0: none of them.
 use Rattle.std.specs.Prelude.{ℕ}
-use Rattle.word.specs.Choice.{if◌then◌else◌}
+use Rattle.std.specs.Bool.{if◌then◌else◌}
 use Rattle.record.specs.declared.Record.{Record}
 use Rattle.restricted.specs.Restricted.{allowed}
 use Rattle.flow.specs.Flow.{misplaced}

@@ -9,7 +9,7 @@ use borrow.Author.Tests.{lt-ltb}
 use lib.Dec.{eqb}
 use lib.ListN.{length, get_or, set, length-set}
 use lib.Seq.{get_or-set_same, get_or-set_other}
-use Rattle.word.specs.Choice.{if◌then◌else◌}
+use Rattle.std.specs.Bool.{if◌then◌else◌}
 use Rattle.word.proofs.Cases.{cases, le_or_gt}
 use Rattle.layout.specs.declared.Point.{Point}
 use Rattle.landing.specs.Code.{Table, table, entered, Placed, Found, Missing, or_else, among, looked_up, Below, Rising}

@@ -1,7 +1,7 @@
 -- How the code keeps the landing places: a table of their addresses, which rise, and beside each address the place. Only so many entries
 -- count, from the first on.
 use Rattle.std.specs.Prelude.{ℕ, zero, suc, ◌+◌, ◌-◌, ◌/◌, ◌%◌, ◌^◌, ◌≤◌, ◌<◌, min, ◌≡◌, Bool, true, false, not, ◌&&◌, List, [], ◌∷◌, eqb, ltb, leb, length, get_or, set}
-use Rattle.word.specs.Choice.{if◌then◌else◌}
+use Rattle.std.specs.Bool.{if◌then◌else◌}
 use Rattle.reading.specs.declared.Place.{Place}
 use Rattle.layout.specs.declared.Point.{Point}
 use Rattle.layout.specs.declared.Seen.{Seen}

@@ -1,7 +1,7 @@
 -- Blocks along the layout: the conditions that wait at a point are a good list; where none is counted nothing waits.
 use Rattle.std.proofs.Common.{◌≡◌, ℕ, ◌≤◌, Bool, true, false, not, ◌&&◌, ◌||◌, eqb, leb, List, length, sym, refl, ap, ◌∙◌, arith, eq-eqb, eqb-true, leb-false, leb-true}
 use mathlib.Core.Bool.{false≢true}
-use Rattle.word.specs.Choice.{if◌then◌else◌}
+use Rattle.std.specs.Bool.{if◌then◌else◌}
 use Rattle.word.proofs.Cases.{both_true, neither}
 use Rattle.waiting.specs.Waiting.{nothing, waiting_count, dropped}
 use Rattle.waiting.proofs.Good.{Good, good_nothing, good_dropped, good_block}

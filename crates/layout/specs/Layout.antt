@@ -1,7 +1,7 @@
 -- The layout of a listing: where each record stands, and which conditions wait there.
 -- "A place counts listing bytes, an address counts machine bytes"; the end of the listing is not taken modulo 2^32.
 use Rattle.std.specs.Prelude.{ℕ, zero, suc, ◌+◌, Bool, true, false, ◌&&◌, List, [], ◌∷◌, length, ◌==◌}
-use Rattle.word.specs.Choice.{if◌then◌else◌}
+use Rattle.std.specs.Bool.{if◌then◌else◌}
 use Rattle.waiting.specs.Waiting.{nothing, waiting_count}
 use Rattle.record.specs.declared.Record.{Record}
 use Rattle.flow.specs.Flow.{traits, machine_length, way, fills, after}

@@ -1,7 +1,7 @@
 -- Registers written, looked at, and taken back; and what the step's definitions make of a machine that is put together from its parts.
 use Rattle.std.proofs.Common.{◌≡◌, ℕ, ◌≤◌, Bool, true, false, eqb, List, length, get_or, set, sym, refl, ap, ◌∙◌, set-set}
 use lib.Seq.{set-get_or}
-use Rattle.word.specs.Choice.{if◌then◌else◌}
+use Rattle.std.specs.Bool.{if◌then◌else◌}
 use Rattle.record.specs.declared.Record.{Record}
 use Rattle.fields.specs.Fields.{well_formed}
 use Rattle.kinds.specs.Kinds.{listing_length, readings, nop_from, record_of}

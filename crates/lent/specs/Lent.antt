@@ -1,7 +1,7 @@
 -- For the code of a run: the machine in parts, lent, and what an arm leaves of them. It is what the step's definitions say of the machine
 -- that the parts make.
 use Rattle.std.specs.Prelude.{◌≡◌, ℕ, ◌+◌, ◌%◌, ◌^◌, ◌≤◌, Bool, true, false, List, [], ◌∷◌, length, ◌==◌, nat_eq, slice_index, slice_index_or, slice_set}
-use Rattle.word.specs.Choice.{if◌then◌else◌}
+use Rattle.std.specs.Bool.{if◌then◌else◌}
 use Rattle.little.specs.Little.{byte}
 use Rattle.address.specs.Address.{cleared}
 use Rattle.flags.specs.declared.Flags.{Flags}

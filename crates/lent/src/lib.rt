@@ -3,7 +3,7 @@
 #![tactic(auto)]
 
 ghost use Rattle.std.specs.Prelude.{◌≡◌, ◌<◌, slice_index, slice_set};
-ghost use Rattle.word.specs.Choice.{if◌then◌else◌};
+ghost use Rattle.std.specs.Prelude.{if◌then◌else◌};
 ghost use Rattle.flags.specs.Flags.{passes, signs, all_four, saturating};
 ghost use Rattle.machine.specs.Machine.{PC, written, settled};
 ghost use Rattle.lent.specs.Lent.{flags_in, put_in, operand_in, base_in, steady_in, Settled, GoesOn};

@@ -10,7 +10,7 @@ use borrow.Author.Tests.{eqb-true, eqb-false, ltb-false, not-true}
 use lib.Dec.{eqb, ltb}
 use lib.IntN.{ℤ}
 use lib.ListN.{length}
-use Rattle.word.specs.Choice.{if◌then◌else◌}
+use Rattle.std.specs.Bool.{if◌then◌else◌}
 use Rattle.word.specs.Word.{bit}
 use Rattle.word.proofs.Cases.{cases, yes_or_no, both_true, either_true, neither}
 use Rattle.waiting.specs.Waiting.{nothing, waiting_count}
@@ -121,7 +121,7 @@ unfolding end_fault
 end_fine p = go (free p) (ltb 0xFFFFFFFE p.address.0) refl refl
   where
     go : (f h : Bool) → free p ≡ f → ltb 0xFFFFFFFE p.address.0 ≡ h
-        → ◌≡◌ {A = ℕ} (if not f then 4 else if h then 1 else 0) 0 → (free p ≡ true) × (p.address.0 ≤ 0xFFFFFFFE)
+        → ◌≡◌ {A = ℕ} (if not f then 4 else (if h then 1 else 0)) 0 → (free p ≡ true) × (p.address.0 ≤ 0xFFFFFFFE)
     go false h f l e = absurd (omega arith)
     go true true f l e = absurd (omega arith)
     go true false f l e = (f, ltb-false 0xFFFFFFFE p.address.0 l)

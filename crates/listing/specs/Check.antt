@@ -1,7 +1,7 @@
 -- "The check reads all records first and reports 2, 3, 4 at the lowest place, the lowest number there .. Then comes the
 -- end address (1), then the lowest place with 9. .. An accepted listing reports place 0."
 use Rattle.std.specs.Prelude.{ℕ, Bool, false, not, ◌||◌, List, [], ◌∷◌, ltb, eqb, length}
-use Rattle.word.specs.Choice.{if◌then◌else◌}
+use Rattle.std.specs.Bool.{if◌then◌else◌}
 use Rattle.word.specs.Word.{bit}
 use Rattle.flow.specs.Flow.{way, target}
 use Rattle.flow.specs.declared.Way.{Way}
@@ -21,7 +21,7 @@ lowest number (p ∷ ps) = if eqb (number p) 0 then lowest number ps else report
 
 -- "a block not finished at the end is 4 at place = length"; "end address above 0xFFFFFFFE" is 1
 unfoldable pub end_fault : Point → ℕ
-end_fault p = if not (free p) then 4 else if ltb 0xFFFFFFFE p.address.0 then 1 else 0
+end_fault p = if not (free p) then 4 else (if ltb 0xFFFFFFFE p.address.0 then 1 else 0)
 
 unfoldable pub fault : Met → Point → ℕ
 fault (Onward r q) p = 0
@@ -52,4 +52,4 @@ second_pass listing base = lowest (λ p. branch_fault listing base (meets listin
 unfoldable pub checked : List ℕ → ℕ → Checked
 checked listing base =
     if ltb 65536 (length listing) || bit 0 base then report 1 0
-    else let first = first_pass listing base in if eqb first.number 0 then second_pass listing base else first
+    else (let first = first_pass listing base in if eqb first.number 0 then second_pass listing base else first)

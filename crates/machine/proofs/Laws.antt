@@ -1,6 +1,6 @@
 -- Registers past the last, and registers loaded one after the other.
 use Rattle.std.proofs.Common.{◌≡◌, ℕ, suc, ◌+◌, ◌≤◌, List, length, sym, arith}
-use Rattle.word.specs.Choice.{if◌then◌else◌}
+use Rattle.std.specs.Bool.{if◌then◌else◌}
 use Rattle.register_list.specs.List.{member}
 use Rattle.setup.specs.declared.Setup.{Setup}
 use Rattle.memory.specs.Memory.{loaded}

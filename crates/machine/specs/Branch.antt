@@ -1,6 +1,6 @@
 -- What the records of kinds 11 to 13 and 16 do: m is the machine before, from which all is read, next the machine at the next record.
 use Rattle.std.specs.Prelude.{ℕ, Bool, not, List, length, ◌==◌}
-use Rattle.word.specs.Choice.{if◌then◌else◌}
+use Rattle.std.specs.Bool.{if◌then◌else◌}
 use Rattle.address.specs.Address.{linked}
 use Rattle.record.specs.Op.{is_bl, is_blx}
 use Rattle.record.specs.declared.op.CompareOp.{CompareOp}

@@ -1,7 +1,7 @@
 -- What the records of kinds 01 to 0C do: m is the machine before, from which all is read, next the machine at the next record. 7 is for a
 -- value for R13 that is no multiple of 4.
 use Rattle.std.specs.Prelude.{ℕ, ◌%◌, ◌^◌, Bool, nat_lt}
-use Rattle.word.specs.Choice.{if◌then◌else◌}
+use Rattle.std.specs.Bool.{if◌then◌else◌}
 use Rattle.sum.specs.declared.Sum.{Sum}
 use Rattle.shift.specs.declared.Shifted.{Shifted}
 use Rattle.product.specs.declared.Long.{Long}

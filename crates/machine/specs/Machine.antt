@@ -1,7 +1,7 @@
 -- "Sixteen 32-bit registers are held by value as one array in the machine, beside flags N, Z, C, V, Q and a list of zero to four
 -- waiting conditions. R15 is the address of the record to be stepped."
 use Rattle.std.specs.Prelude.{ℕ, ◌+◌, ◌%◌, ◌^◌, Bool, ◌&&◌, List, replicate, ◌==◌, slice_index, slice_set}
-use Rattle.word.specs.Choice.{if◌then◌else◌}
+use Rattle.std.specs.Bool.{if◌then◌else◌}
 use Rattle.word.specs.Word.{bit}
 use Rattle.address.specs.Address.{cleared}
 use Rattle.flags.specs.declared.Flags.{Flags}

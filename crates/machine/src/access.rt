@@ -3,7 +3,7 @@
 
 ghost use Rattle.std.specs.Prelude.{◌≡◌};
 ghost use Rattle.machine.specs.Access.{storing, based, arriving, access_made, access_done, access_effect, indexed_access_effect, dual_made, dual_access_effect, list_loaded, list_arriving, multiple_made, multiple_access_effect};
-ghost use Rattle.word.specs.Choice.{if◌then◌else◌};
+ghost use Rattle.std.specs.Prelude.{if◌then◌else◌};
 ghost use Rattle.memory.specs.Memory.{loaded};
 ghost use Rattle.machine.specs.Machine.{written, landed, keeping};
 

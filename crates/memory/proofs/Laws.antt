@@ -3,7 +3,7 @@ use Rattle.std.proofs.Common.{◌≡◌, ℕ, zero, suc, ◌+◌, ◌-◌, ◌*�
 use lib.ListN.{get_or-eq_default}
 use lib.Bits.{bit_or, or_shifted}
 use borrow.Author.Tests.{lt-leb}
-use Rattle.word.specs.Choice.{if◌then◌else◌}
+use Rattle.std.specs.Bool.{if◌then◌else◌}
 use Rattle.word.proofs.Cases.{cases, yes_or_no, le_or_gt, ltb_both}
 use Rattle.little.specs.Little.{byte, little, number_at}
 use Rattle.little.proofs.Laws.{little_join}

@@ -1,6 +1,6 @@
 -- Memory: "one lent buffer .. with a base address, little-endian".
 use Rattle.std.specs.Prelude.{ℕ, zero, suc, ◌+◌, ◌-◌, ◌*◌, ◌/◌, ◌%◌, ◌^◌, Bool, true, ◌&&◌, List, length, nat_le, nat_lt, slice_set}
-use Rattle.word.specs.Choice.{if◌then◌else◌}
+use Rattle.std.specs.Bool.{if◌then◌else◌}
 use Rattle.little.specs.Little.{byte, little}
 use Rattle.setup.specs.declared.Setup.{Setup}
 

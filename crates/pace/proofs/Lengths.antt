@@ -1,6 +1,6 @@
 -- How many bytes a record has, by its kind.
 use Rattle.std.proofs.Common.{◌≡◌, ℕ, ◌+◌, ◌≤◌, Bool, true, false, ◌&&◌, eqb, List, length, refl, arith, eqb-true}
-use Rattle.word.specs.Choice.{if◌then◌else◌}
+use Rattle.std.specs.Bool.{if◌then◌else◌}
 use Rattle.little.specs.Little.{byte}
 use Rattle.waiting.specs.Waiting.{block}
 use Rattle.record.specs.declared.Record.{Record}

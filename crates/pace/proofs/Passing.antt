@@ -1,6 +1,6 @@
 -- What waits after a record that is passed over, and the records that do nothing but go on.
 use Rattle.std.proofs.Common.{◌≡◌, ℕ, zero, ◌≤◌, Bool, true, false, eqb, leb, List, [], ◌∷◌, sym, refl, ◌∙◌, true≢false, arith, eq-eqb, eqb-true, leb-false}
-use Rattle.word.specs.Choice.{if◌then◌else◌}
+use Rattle.std.specs.Bool.{if◌then◌else◌}
 use Rattle.little.specs.Little.{byte}
 use Rattle.waiting.specs.declared.Waiting.{Waiting}
 use Rattle.waiting.specs.Waiting.{none, waiting_count, dropped}

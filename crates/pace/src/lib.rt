@@ -3,7 +3,7 @@
 #![tactic(auto)]
 
 ghost use Rattle.std.specs.Prelude.{◌≡◌, nat_eq};
-ghost use Rattle.word.specs.Choice.{if◌then◌else◌};
+ghost use Rattle.std.specs.Prelude.{if◌then◌else◌};
 ghost use Rattle.flags.specs.Flags.{passes};
 ghost use Rattle.waiting.specs.Waiting.{none};
 ghost use Rattle.flow.specs.Flow.{form_length, machine_length, after, own_condition};

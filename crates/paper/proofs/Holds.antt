@@ -7,7 +7,7 @@ use mathlib.Core.Path.{◌≡◌, refl, ◌∙◌}
 use native.Mathlib.Omega.{arith}
 use lib.Dec.{eqb}
 use lib.ListN.{length}
-use Rattle.word.specs.Choice.{if◌then◌else◌}
+use Rattle.std.specs.Bool.{if◌then◌else◌}
 use Rattle.word.specs.Word.{bit}
 use Rattle.word.proofs.Cases.{chosen}
 use Rattle.setup.specs.declared.Setup.{Setup}
@@ -77,7 +77,7 @@ module _
     unfolding access_refusal
     of_refusal wanted count address a p = go (not (eqb (address % multiple wanted) 0)) (inside count setup (length bytes) address)
       where
-        go : (t u : Bool) → let n : ℕ = if t then 5 else if u then 0 else 6 in P (if eqb n 0 then a else keeping (refused n m) bytes)
+        go : (t u : Bool) → let n : ℕ = if t then 5 else (if u then 0 else 6) in P (if eqb n 0 then a else keeping (refused n m) bytes)
         go true u = ends.stop 5 (omega arith, omega arith)
         go false true = p
         go false false = ends.stop 6 (omega arith, omega arith)

@@ -1,7 +1,7 @@
 -- "SDIV rounds toward zero; a zero divisor gives 0."
 use Rattle.std.specs.Prelude.{ℕ, ◌/◌, eqb}
 use Rattle.std.specs.Int.Signed.{quot_z}
-use Rattle.word.specs.Choice.{if◌then◌else◌}
+use Rattle.std.specs.Bool.{if◌then◌else◌}
 use Rattle.word.specs.Word.{signed, wrapped}
 
 unfoldable pub UDIV : ℕ → ℕ → ℕ

@@ -1,6 +1,6 @@
 -- Which bytes are a record. "record short, trailing bytes, unknown kind, field not as above" is number 2.
 use Rattle.std.specs.Prelude.{ℕ, ◌+◌, Bool, true, ◌&&◌, ◌||◌, List, leb, ltb, eqb, length, take, drop}
-use Rattle.word.specs.Choice.{if◌then◌else◌}
+use Rattle.std.specs.Bool.{if◌then◌else◌}
 use Rattle.little.specs.Little.{byte}
 use Rattle.fields.specs.Fields.{well_formed}
 use Rattle.kinds.specs.Kinds.{listing_length, names, record_of}
@@ -17,19 +17,19 @@ form_known r at = ltb (byte r at) 4
 unfoldable pub coded : List ℕ → ℕ → Bool
 coded r kind =
     if eqb kind 0x01 then ltb (byte r 6) 5
-    else if eqb kind 0x0A then ltb (byte r 6) 5
-    else if eqb kind 0x0D then ltb (byte r 5) 3
-    else if eqb kind 0x0F then ltb (byte r 6) 3
-    else if eqb kind 0x10 then ltb (byte r 4) 2
-    else true
+    else (if eqb kind 0x0A then ltb (byte r 6) 5
+    else (if eqb kind 0x0D then ltb (byte r 5) 3
+    else (if eqb kind 0x0F then ltb (byte r 6) 3
+    else (if eqb kind 0x10 then ltb (byte r 4) 2
+    else true))))
 
 -- every number that stands for a name has one, and the form byte's other bits are 0; IT and NOP have no op, a filler has neither
 unfoldable pub named : List ℕ → Bool
 named r =
     let kind = byte r 0 in
     if eqb kind 0x17 then true
-    else if eqb kind 0x14 || eqb kind 0x15 then form_known r 1
-    else ltb (byte r 1) (names kind) && form_known r 2 && coded r kind
+    else (if eqb kind 0x14 || eqb kind 0x15 then form_known r 1
+    else ltb (byte r 1) (names kind) && form_known r 2 && coded r kind)
 
 -- all the bytes are one record, and no more
 unfoldable pub read_one : List ℕ → Read

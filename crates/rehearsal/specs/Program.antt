@@ -2,7 +2,7 @@
 -- 0x20008000, R15 0x1000, all else 0, budget 1,000,000. If the check refuses, it writes one line, as `check 2 at 17`, and no more
 -- (`check 1 at 0` for too many bytes). Any other end is written as below".
 use Rattle.std.specs.Prelude.{ℕ, List, ◌++◌, leb, ltb, eqb, length, drop, replicate}
-use Rattle.word.specs.Choice.{if◌then◌else◌}
+use Rattle.std.specs.Bool.{if◌then◌else◌}
 use Rattle.setup.specs.Setup.{at_base}
 use Rattle.listing.specs.declared.Checked.{Checked}
 use Rattle.listing.specs.Check.{checked}

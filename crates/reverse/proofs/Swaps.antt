@@ -8,7 +8,7 @@ use borrow.Author.Tests.{eqb-true}
 use lib.Bits.{bit_and, bit_or, bit_xor, xor_lt}
 use lib.Dec.{eqb, leb}
 use lib.Pow.{pow_mono}
-use Rattle.word.specs.Choice.{if◌then◌else◌}
+use Rattle.std.specs.Bool.{if◌then◌else◌}
 use Rattle.word.specs.Word.{bit}
 use Rattle.word.proofs.Cases.{cases, le_or_gt, both_true}
 use Rattle.word.proofs.Bits.{bit-bit_and, bit-bit_or, bit_shr, bit_mod, bit_shl, by_bits}

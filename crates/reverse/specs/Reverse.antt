@@ -1,6 +1,6 @@
 -- CLZ REV REV16 REVSH RBIT.
 use Rattle.std.specs.Prelude.{ℕ, zero, suc, ◌+◌, ◌-◌, ◌*◌, ◌/◌, ◌%◌, ◌^◌}
-use Rattle.word.specs.Choice.{if◌then◌else◌}
+use Rattle.std.specs.Bool.{if◌then◌else◌}
 use Rattle.word.specs.Word.{bit, from_bits}
 use Rattle.field.specs.Field.{SBFX}
 

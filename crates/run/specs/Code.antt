@@ -1,7 +1,7 @@
 -- For the code alone: where its machine is, and what its rounds keep of a run, where the definition keeps the records too.
 use Rattle.std.specs.Prelude.{ℕ, suc, ◌+◌, ◌<◌, Bool, true, ◌&&◌, ◌||◌, ◌≡◌, eqb, ltb, length, get_or}
 use mathlib.Core.List.{List, Memᴰ}
-use Rattle.word.specs.Choice.{if◌then◌else◌}
+use Rattle.std.specs.Bool.{if◌then◌else◌}
 use Rattle.waiting.specs.declared.Waiting.{Waiting}
 use Rattle.waiting.specs.Waiting.{nothing, same}
 use Rattle.record.specs.declared.Record.{Record}

@@ -1,7 +1,7 @@
 -- Order 6: "Store the place with the running machine, and keep it true through each step, each branch, each resume after number 10, and
 -- each refused step. Before every step the stored place is the one that the walk would find."
 use Rattle.std.specs.Prelude.{ℕ, Bool, true, false, not, ◌&&◌, List, eqb, length}
-use Rattle.word.specs.Choice.{if◌then◌else◌}
+use Rattle.std.specs.Bool.{if◌then◌else◌}
 use Rattle.setup.specs.Setup.{fits}
 use Rattle.layout.specs.Layout.{AtAddress, Stands, End, Stray, at_address}
 use Rattle.listing.specs.Check.{checked}

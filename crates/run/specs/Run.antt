@@ -1,6 +1,6 @@
 -- "A run tests machine and memory (1), then the check, then each round: end (0), stray (8), steps used up (10), step."
 use Rattle.std.specs.Prelude.{ℕ, zero, suc, ◌&&◌, List, [], ◌∷◌, eqb, length}
-use Rattle.word.specs.Choice.{if◌then◌else◌}
+use Rattle.std.specs.Bool.{if◌then◌else◌}
 use Rattle.waiting.specs.declared.Waiting.{Waiting}
 use Rattle.waiting.specs.Waiting.{nothing, same}
 use Rattle.record.specs.declared.Record.{Record}

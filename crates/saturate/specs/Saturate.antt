@@ -1,13 +1,13 @@
 -- SSAT and USAT of a signed number. (SSAT to 0 bits, which no record asks for, is as to 1.)
 use Rattle.std.specs.Prelude.{ℕ, ◌-◌, ◌^◌, ◌||◌, ℤ, pos, neg_ℤ}
 use Rattle.std.specs.Int.Signed.{lt_z}
-use Rattle.word.specs.Choice.{if◌then◌else◌}
+use Rattle.std.specs.Bool.{if◌then◌else◌}
 use Rattle.saturate.specs.declared.Saturated.{Saturated}
 
 -- the nearest number from least to most, and whether that is another
 abbrev pub saturated_to : ℤ → ℤ → ℤ → Saturated
 saturated_to least most z = record {
-  value = if lt_z z least then least else if lt_z most z then most else z;
+  value = if lt_z z least then least else (if lt_z most z then most else z);
   saturated = lt_z z least || lt_z most z;
 }
 

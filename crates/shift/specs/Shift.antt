@@ -2,7 +2,7 @@
 -- and amount 0 leaves the word and the carry before.
 use Rattle.std.specs.Prelude.{ℕ, ◌+◌, ◌-◌, ◌*◌, ◌/◌, ◌%◌, ◌^◌, min, Bool, eqb}
 use Rattle.std.specs.Int.Signed.{shr_z}
-use Rattle.word.specs.Choice.{if◌then◌else◌}
+use Rattle.std.specs.Bool.{if◌then◌else◌}
 use Rattle.word.specs.Word.{one_if, bit, negative, signed, wrapped}
 use Rattle.shift.specs.declared.Shifted.{Shifted}
 

@@ -1,6 +1,6 @@
 -- For the code alone: a text while it is written.
 use Rattle.std.specs.Prelude.{ℕ, ◌+◌, List, [], ◌∷◌, ltb, set, replicate}
-use Rattle.word.specs.Choice.{if◌then◌else◌}
+use Rattle.std.specs.Bool.{if◌then◌else◌}
 use Rattle.text.specs.declared.Text.{Text}
 
 unfoldable pub blank : Text

@@ -5,7 +5,7 @@
 use Rattle.std.specs.Prelude.{ℕ, zero, suc, ◌/◌, ◌%◌, ◌^◌, Bool, List, [], ◌∷◌, ◌++◌, ltb, get_or}
 use Prim.Native.Char.{code}
 use Prim.Native.String.{String, [] as none, ◌∷◌ as ◌then◌}
-use Rattle.word.specs.Choice.{if◌then◌else◌}
+use Rattle.std.specs.Bool.{if◌then◌else◌}
 use Rattle.word.specs.Word.{one_if}
 use Rattle.flags.specs.declared.Flags.{Flags}
 

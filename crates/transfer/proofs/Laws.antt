@@ -1,6 +1,6 @@
 -- Lists of registers, one after the other.
 use Rattle.std.proofs.Common.{◌≡◌, ℕ, suc, ◌+◌, ◌%◌, ◌^◌, ◌<◌, List, get_or, arith}
-use Rattle.word.specs.Choice.{if◌then◌else◌}
+use Rattle.std.specs.Bool.{if◌then◌else◌}
 use Rattle.word.proofs.Cases.{cases, yes_or_no}
 use Rattle.register_list.specs.List.{member, members_below}
 use Rattle.setup.specs.declared.Setup.{Setup}

@@ -1,6 +1,6 @@
 -- Memory keeps its length through every store.
 use Rattle.std.proofs.Common.{◌≡◌, ℕ, zero, suc, Bool, true, false, List, length, refl, ◌∙◌}
-use Rattle.word.specs.Choice.{if◌then◌else◌}
+use Rattle.std.specs.Bool.{if◌then◌else◌}
 use Rattle.register_list.specs.List.{member}
 use Rattle.setup.specs.declared.Setup.{Setup}
 use Rattle.memory.specs.Memory.{stored}

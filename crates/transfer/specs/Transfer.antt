@@ -1,6 +1,6 @@
 -- Loads and stores, kinds 0D to 10, and the tables of kind 16: how wide, from where, in which order, and whether they may be made.
 use Rattle.std.specs.Prelude.{ℕ, zero, suc, ◌+◌, ◌-◌, ◌*◌, ◌%◌, ◌^◌, Bool, true, false, not, ◌&&◌, List, ◌==◌, slice_index}
-use Rattle.word.specs.Choice.{if◌then◌else◌}
+use Rattle.std.specs.Bool.{if◌then◌else◌}
 use Rattle.field.specs.Field.{SXTB, SXTH}
 use Rattle.register_list.specs.List.{member, members_below}
 use Rattle.setup.specs.declared.Setup.{Setup}
@@ -70,8 +70,8 @@ alignment op leaves = if is_ldr op && leaves then Word else Byte
 unfoldable pub access_refusal : Alignment → ℕ → Setup → ℕ → ℕ → ℕ
 access_refusal wanted count setup size address =
     if not (address % multiple wanted == 0) then 5
-    else if inside count setup size address then 0
-    else 6
+    else (if inside count setup size address then 0
+    else 6)
 
 -- the bytes that a list takes
 unfoldable pub list_size : ℕ → ℕ

@@ -4,7 +4,7 @@
 
 ghost use Rattle.std.specs.Prelude.{◌≡◌, ◌*◌, ◌%◌, ◌^◌, length, ◌==◌};
 ghost use Rattle.transfer.specs.Transfer.{width, load_value, after_store, reached, multiple, alignment, access_refusal, list_size, lower, lowest_address, new_base, slot, list_stored, entry_width, entry_address, table_target};
-ghost use Rattle.word.specs.Choice.{if◌then◌else◌};
+ghost use Rattle.std.specs.Prelude.{if◌then◌else◌};
 ghost use Rattle.address.specs.Address.{moved};
 ghost use Rattle.memory.specs.Memory.{further, loaded, stored};
 

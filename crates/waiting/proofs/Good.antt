@@ -7,7 +7,7 @@ use native.Mathlib.Omega.{arith}
 use native.Mathlib.Nat.{zero-div}
 use borrow.Author.Tests.{eqb-true, eqb-false, eq-eqb, ne_eqb, leb-true, le-leb}
 use lib.Dec.{eqb, leb}
-use Rattle.word.specs.Choice.{if◌then◌else◌}
+use Rattle.std.specs.Bool.{if◌then◌else◌}
 use Rattle.word.specs.Word.{bit}
 use Rattle.word.proofs.Cases.{cases, yes_or_no, both_true, either_true}
 use Rattle.waiting.specs.declared.Waiting.{Waiting}

@@ -6,7 +6,7 @@ use mathlib.Core.Path.{◌≡◌, refl}
 use native.Mathlib.Omega.{arith}
 use borrow.Author.Tests.{eqb-true, eq-eqb}
 use lib.Dec.{eqb}
-use Rattle.word.specs.Choice.{if◌then◌else◌}
+use Rattle.std.specs.Bool.{if◌then◌else◌}
 use Rattle.word.proofs.Cases.{cases, both_true}
 use Rattle.waiting.specs.declared.Waiting.{Waiting}
 use Rattle.waiting.specs.Waiting.{none, nothing, waiting_count, dropped, same}
@@ -43,7 +43,7 @@ same_self w =
 
 -- ---- none and one
 abbrev counted : Bool → Bool → Bool → Bool → ℕ
-counted a b c d = if a then 0 else if b then 1 else if c then 2 else if d then 3 else 4
+counted a b c d = if a then 0 else (if b then 1 else (if c then 2 else (if d then 3 else 4)))
 
 none_counted : (a b c d : Bool) → counted a b c d ≡ 0 → a ≡ true
 none_counted true b c d e = refl

@@ -1,6 +1,6 @@
 -- "a list of zero to four waiting conditions", the first to be used first; a place of the list that holds none is 15.
 use Rattle.std.specs.Prelude.{ℕ, ◌+◌, ◌-◌, Bool, false, not, ◌&&◌, ◌||◌, leb, eqb}
-use Rattle.word.specs.Choice.{if◌then◌else◌}
+use Rattle.std.specs.Bool.{if◌then◌else◌}
 use Rattle.word.specs.Word.{bit}
 use Rattle.waiting.specs.declared.Waiting.{Waiting}
 
@@ -14,10 +14,10 @@ nothing = record { first = none; second = none; third = none; fourth = none }
 unfoldable pub waiting_count : Waiting → ℕ
 waiting_count w =
     if eqb w.first none then 0
-    else if eqb w.second none then 1
-    else if eqb w.third none then 2
-    else if eqb w.fourth none then 3
-    else 4
+    else (if eqb w.second none then 1
+    else (if eqb w.third none then 2
+    else (if eqb w.fourth none then 3
+    else 4)))
 
 -- the first is used up
 unfoldable pub dropped : Waiting → Waiting

@@ -1,3 +1,2 @@
-pub mod Choice
 pub mod Sole
 pub mod Word

@@ -1,6 +1,6 @@
 -- A word is a number below 2 ^ 32; these are the ways in which the arithmetic reads one.
 use Rattle.std.specs.Prelude.{ℕ, zero, suc, ◌+◌, ◌-◌, ◌*◌, ◌/◌, ◌%◌, ◌^◌, Bool, true, false, leb, eqb, ℤ, pos, negsuc, ◌-ℤ◌}
-use Rattle.word.specs.Choice.{if◌then◌else◌}
+use Rattle.std.specs.Bool.{if◌then◌else◌}
 
 -- a truth as a number
 abbrev pub one_if : Bool → ℕ

@@ -1,5 +1,5 @@
 use Rattle.std.proofs.Common.{◌≡◌, eqb, get_or, rules}
-use Rattle.word.specs.Choice.{if◌then◌else◌}
+use Rattle.std.specs.Bool.{if◌then◌else◌}
 use Rattle.record.specs.declared.Record.TheVariants.{TableBranch}
 use Rattle.kinds.specs.Kinds.{record_of}
 use Rattle.flags.specs.declared.Flags.{Flags}

@@ -3,7 +3,6 @@ use mathlib.Core.Path.{◌≡◌}
 use mathlib.Core.Bool.{true, false, ◌&&◌}
 use native.Mathlib.Omega.{arith}
 use lib.Dec.{ltb}
-use borrow.Author.Rules.{rules}
 use Rattle.constant.specs.Constant.{constant_carry}
 use Rattle.word.proofs.Numbers.{holds_once}
 use Rattle.constant.proofs.carry_of.Goals as goal

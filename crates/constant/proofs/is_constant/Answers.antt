@@ -1,4 +1,3 @@
-use borrow.Author.Rules.{rules}
 use Rattle.constant.specs.Constant.{constant}
 use Rattle.constant.proofs.is_constant.Goals as goal
 

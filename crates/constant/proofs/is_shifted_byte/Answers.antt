@@ -5,7 +5,6 @@ use native.Mathlib.Nat.{mod-one, mod-eq_of_lt}
 use lib.Pow.{pow_mono, pow_pos}
 use lib.Bits.{and_mask}
 use lib.Count.{count_leading_zeros, leading_le}
-use borrow.Author.Rules.{rules}
 use Rattle.constant.proofs.Laws.{shifted_byte_of_word}
 use Rattle.constant.proofs.is_shifted_byte.Goals as goal
 

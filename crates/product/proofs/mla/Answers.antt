@@ -1,4 +1,4 @@
-use Rattle.std.proofs.Common.{arith, rules}
+use Rattle.std.proofs.Common.{arith}
 use Rattle.product.specs.Product.{MUL, MLA}
 use Rattle.product.proofs.mla.Goals as goal
 

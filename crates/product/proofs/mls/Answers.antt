@@ -1,4 +1,4 @@
-use Rattle.std.proofs.Common.{arith, rules}
+use Rattle.std.proofs.Common.{arith}
 use Rattle.product.specs.Product.{MUL, MLS}
 use Rattle.word.proofs.Integers.{wrapped_subtract}
 use Rattle.product.proofs.mls.Goals as goal

@@ -1,4 +1,3 @@
-use Rattle.std.proofs.Common.{rules}
 use Rattle.product.specs.Product.{MUL, UMULL}
 use Rattle.product.proofs.mul.Goals as goal
 

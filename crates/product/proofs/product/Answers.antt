@@ -1,4 +1,4 @@
-use Rattle.std.proofs.Common.{arith, rules}
+use Rattle.std.proofs.Common.{arith}
 use Rattle.product.proofs.Laws.{product_below}
 use Rattle.product.proofs.product.Goals as goal
 

@@ -1,4 +1,4 @@
-use Rattle.std.proofs.Common.{◌*ℤ◌, to_z-of_z, w32, w64, SFits, rules}
+use Rattle.std.proofs.Common.{◌*ℤ◌, to_z-of_z, w32, w64, SFits}
 use mir.Facts.{sfits_widen}
 use Rattle.product.proofs.Laws.{product_fits, widened}
 use Rattle.product.proofs.signed_product.Goals as goal

@@ -1,4 +1,4 @@
-use Rattle.std.proofs.Common.{ap, arith, rules}
+use Rattle.std.proofs.Common.{ap, arith}
 use Rattle.word.proofs.Integers.{wrapped_add}
 use Rattle.product.specs.Product.{SMLAL, halves}
 use Rattle.product.proofs.smlal.Goals as goal

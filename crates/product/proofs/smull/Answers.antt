@@ -1,4 +1,4 @@
-use Rattle.std.proofs.Common.{ap, arith, rules}
+use Rattle.std.proofs.Common.{ap, arith}
 use Rattle.product.specs.Product.{SMULL, halves}
 use Rattle.product.proofs.smull.Goals as goal
 

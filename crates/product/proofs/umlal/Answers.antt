@@ -1,4 +1,4 @@
-use Rattle.std.proofs.Common.{ap, arith, rules}
+use Rattle.std.proofs.Common.{ap, arith}
 use Rattle.product.specs.Product.{UMLAL, halves}
 use Rattle.product.proofs.umlal.Goals as goal
 

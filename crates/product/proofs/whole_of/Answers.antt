@@ -1,4 +1,4 @@
-use Rattle.std.proofs.Common.{arith, rules}
+use Rattle.std.proofs.Common.{arith}
 use Rattle.product.proofs.Laws.{words_joined}
 use Rattle.product.proofs.whole_of.Goals as goal
 

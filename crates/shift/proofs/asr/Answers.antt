@@ -1,7 +1,6 @@
 use Prim.Native.Nat.{◌-◌, min}
 use mathlib.Core.Path.{◌≡◌}
 use native.Mathlib.Omega.{arith}
-use borrow.Author.Rules.{rules}
 use borrow.Author.Tests.{ne_eqb}
 use Rattle.word.proofs.Integers.{wrapped_signed}
 use Rattle.word.specs.Word.{signed}

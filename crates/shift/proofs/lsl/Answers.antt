@@ -2,7 +2,6 @@ use Prim.Native.Nat.{◌*◌, ◌/◌, ◌%◌, ◌^◌}
 use mathlib.Core.Path.{◌≡◌}
 use native.Mathlib.Omega.{arith}
 use lib.Bits.{and_mask}
-use borrow.Author.Rules.{rules}
 use borrow.Author.Tests.{ne_eqb}
 use Rattle.word.proofs.Numbers.{none_below, bit_clear}
 use Rattle.shift.specs.Shift.{LSL}

@@ -2,7 +2,6 @@ use Prim.Native.Nat.{◌-◌, ◌/◌, ◌^◌}
 use mathlib.Core.Path.{◌≡◌}
 use native.Mathlib.Omega.{arith}
 use lib.Pow.{shr_le}
-use borrow.Author.Rules.{rules}
 use borrow.Author.Tests.{ne_eqb}
 use Rattle.word.proofs.Numbers.{none_above}
 use Rattle.shift.specs.Shift.{LSR}

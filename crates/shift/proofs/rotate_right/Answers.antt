@@ -1,7 +1,6 @@
 use Prim.Native.Nat.{◌-◌, ◌*◌, ◌%◌, ◌^◌}
 use native.Mathlib.Omega.{arith}
 use lib.Bits.{bit_and, and_mask, mask_lt}
-use borrow.Author.Rules.{rules}
 use Rattle.shift.proofs.Laws.{turned}
 use Rattle.shift.proofs.rotate_right.Goals as goal
 

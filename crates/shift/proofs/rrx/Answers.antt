@@ -2,7 +2,6 @@ use Prim.Native.Nat.{◌+◌, ◌*◌, ◌/◌, ◌%◌, ◌^◌, ◌≤◌}
 use mathlib.Core.Path.{◌≡◌}
 use native.Mathlib.Omega.{arith}
 use lib.Bits.{and_mask, or_shifted}
-use borrow.Author.Rules.{rules}
 use Rattle.word.proofs.Numbers.{one_if_le}
 use Rattle.shift.specs.Shift.{RRX}
 use Rattle.shift.proofs.rrx.Goals as goal

@@ -1,7 +1,6 @@
 use Prim.Native.Nat.{◌+◌, ◌%◌, ◌^◌}
 use native.Mathlib.Omega.{arith}
 use lib.Bits.{and_mask}
-use borrow.Author.Rules.{rules}
 use Rattle.word.specs.Word.{one_if}
 use Rattle.sum.specs.Sum.{add_with_carry}
 use Rattle.word.proofs.Numbers.{one_if_either, holds_once}

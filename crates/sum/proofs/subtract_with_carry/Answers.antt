@@ -1,5 +1,4 @@
 use native.Mathlib.Omega.{arith}
-use borrow.Author.Rules.{rules}
 use Rattle.sum.proofs.Laws.{difference_is_sum}
 use Rattle.sum.proofs.subtract_with_carry.Goals as goal
 

@@ -1,7 +1,6 @@
 use Prim.Native.Nat.{◌/◌, ◌^◌}
 use native.Mathlib.Omega.{arith}
 use lib.Bits.{and_mask}
-use borrow.Author.Rules.{rules}
 use Rattle.word.proofs.Numbers.{none_above}
 use Rattle.word.proofs.bit_of.Goals as goal
 

@@ -1,7 +1,6 @@
 use Prim.Native.Nat.{◌^◌, ◌≤◌, ◌<◌}
 use native.Mathlib.Omega.{arith}
 use lib.Pow.{pow_mono, pow_pos}
-use borrow.Author.Rules.{rules}
 use Rattle.word.proofs.Numbers.{none_below}
 use Rattle.word.proofs.ones.Goals as goal
 

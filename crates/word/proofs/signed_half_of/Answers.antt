@@ -1,6 +1,5 @@
 use native.Mathlib.Omega.{arith}
 use mir.Syntax.{w16}
-use borrow.Author.Rules.{rules}
 use Rattle.word.proofs.Integers.{signed_bits, turned_over}
 use Rattle.word.proofs.signed_half_of.Goals as goal
 

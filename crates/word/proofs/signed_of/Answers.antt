@@ -1,6 +1,5 @@
 use native.Mathlib.Omega.{arith}
 use mir.Syntax.{w32}
-use borrow.Author.Rules.{rules}
 use Rattle.word.proofs.Integers.{signed_bits, turned_over}
 use Rattle.word.proofs.signed_of.Goals as goal
 

@@ -1,7 +1,6 @@
 use lib.Bits.{and_mask, mask_lt}
 use mir.Syntax.{w32, w64}
 use mir.Facts.{to_z-of_z, sfits_widen}
-use borrow.Author.Rules.{rules}
 use Rattle.word.proofs.Integers.{wrapped_low}
 use Rattle.word.proofs.unsigned_of.Goals as goal
 

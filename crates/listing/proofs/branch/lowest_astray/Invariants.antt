@@ -1,7 +1,7 @@
 use mathlib.Core.Path.{◌≡◌, refl, ◌∙◌}
 use native.Mathlib.Omega.{arith}
 use borrow.Author.Rules.{rules}
-use Rattle.word.specs.Choice.{if◌then◌else◌}
+use Rattle.std.specs.Bool.{if◌then◌else◌}
 use Rattle.layout.proofs.Members.{On, start_on, next_on}
 use Rattle.layout.proofs.Turns.{Passed, passed, ended, stopped, ends_last, stops_last}
 use Rattle.layout.specs.Layout.{meets, walk, layout}
