@@ -1,5 +1,5 @@
 -- What all records have in common: the length of a form or of a filler, no block but that of an IT record, and a filler after few.
-use Rattle.std.proofs.Common.{◌≡◌, ℕ, ◌%◌, ◌≤◌, Bool, true, false, not, eqb, ◌⊎◌, ℤ, sym, refl, ap, subst, inl, inr, arith, eqb-true}
+use Rattle.std.proofs.Common.{◌≡◌, ℕ, ◌%◌, ◌≤◌, Bool, true, false, not, eqb, ◌⊎◌, ℤ, refl, inl, inr, arith, eqb-true}
 use mathlib.Core.Bool.{false≢true}
 use Rattle.std.specs.Bool.{if◌then◌else◌}
 use Rattle.word.proofs.Cases.{cases, yes_or_no, both_true}

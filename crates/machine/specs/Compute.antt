@@ -21,7 +21,6 @@ use Rattle.record.specs.declared.DivideFields.{DivideFields}
 use Rattle.record.specs.declared.SaturateFields.{SaturateFields}
 use Rattle.record.specs.declared.BitFieldFields.{BitFieldFields}
 use Rattle.record.specs.declared.ExtendFields.{ExtendFields}
-use Rattle.operate.specs.declared.Saturation.{Saturation}
 use Rattle.operate.specs.Operate.{shifter, constant_operand, operated, added, placed_number, unary_result, multiplied, multiplied_long, divided, saturated, fielded, extended}
 use Rattle.setup.specs.declared.Setup.{Setup}
 use Rattle.machine.specs.declared.Machine.{Machine}

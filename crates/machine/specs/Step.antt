@@ -1,6 +1,6 @@
 -- "A step takes the machine and a record and hands back the next machine." "The lowest number that applies to a step is given."
 -- "A refused step writes nothing."
-use Rattle.std.specs.Prelude.{ℕ, Bool, ◌&&◌, List, ◌==◌}
+use Rattle.std.specs.Prelude.{ℕ, ◌&&◌, List, ◌==◌}
 use Rattle.std.specs.Bool.{if◌then◌else◌}
 use Rattle.waiting.specs.Waiting.{waiting_count}
 use Rattle.setup.specs.declared.Setup.{Setup}

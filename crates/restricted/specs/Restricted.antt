@@ -1,6 +1,5 @@
 -- "Restricted (3)." What is allowed of each kind; anything else is number 3.
 use Rattle.std.specs.Prelude.{ℕ, Bool, true, false, not, ◌&&◌, ◌||◌, leb, eqb}
-use Rattle.std.specs.Bool.{if◌then◌else◌}
 use Rattle.register_list.specs.List.{member}
 use Rattle.record.specs.Op.{data_code, is_lsl, loads, loads_dual, loads_many, is_blx, is_offset}
 use Rattle.record.specs.declared.op.DataOp.{DataOp}

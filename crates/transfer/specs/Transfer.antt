@@ -1,5 +1,5 @@
 -- Loads and stores, kinds 0D to 10, and the tables of kind 16: how wide, from where, in which order, and whether they may be made.
-use Rattle.std.specs.Prelude.{ℕ, zero, suc, ◌+◌, ◌-◌, ◌*◌, ◌%◌, ◌^◌, Bool, true, false, not, ◌&&◌, List, ◌==◌, slice_index}
+use Rattle.std.specs.Prelude.{ℕ, zero, suc, ◌+◌, ◌-◌, ◌*◌, ◌%◌, ◌^◌, Bool, not, ◌&&◌, List, ◌==◌, slice_index}
 use Rattle.std.specs.Bool.{if◌then◌else◌}
 use Rattle.field.specs.Field.{SXTB, SXTH}
 use Rattle.register_list.specs.List.{member, members_below}

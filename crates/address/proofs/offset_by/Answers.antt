@@ -1,4 +1,4 @@
-use Rattle.std.proofs.Common.{◌≡◌, sym, ap, ◌∙◌, to_z-of_z, rules}
+use Rattle.std.proofs.Common.{◌≡◌, sym, ap, ◌∙◌, to_z-of_z}
 use Rattle.word.specs.Word.{wrapped}
 use Rattle.word.proofs.Integers.{wrapped_add}
 use Rattle.address.specs.Address.{moved}

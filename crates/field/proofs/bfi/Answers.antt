@@ -1,5 +1,4 @@
 use native.Mathlib.Omega.{arith}
-use borrow.Author.Rules.{rules}
 use Rattle.field.proofs.Laws.{put_in, put_none}
 use Rattle.field.proofs.bfi.Goals as goal
 

@@ -2,7 +2,6 @@ use Prim.Native.Nat.{◌/◌, ◌^◌}
 use native.Mathlib.Omega.{arith}
 use native.Mathlib.Nat.{zero-mod}
 use lib.Pow.{shr_le}
-use borrow.Author.Rules.{rules}
 use Rattle.word.proofs.Numbers.{none_above}
 use Rattle.field.specs.Field.{UBFX}
 use Rattle.field.proofs.Laws.{taken}

@@ -1,5 +1,4 @@
 use Rattle.fields.specs.Fields.{well_formed}
-use borrow.Author.Rules.{rules}
 use Rattle.fields.proofs.is_well_formed.Goals as goal
 
 pub returns-in-ShiftedRegister : goal.returns-in-ShiftedRegister

@@ -1,5 +1,4 @@
 use Rattle.flow.specs.Flow.{traits}
-use Rattle.std.proofs.Common.{rules}
 use Rattle.flow.proofs.if_then_traits_of.Goals as goal
 
 pub returns : goal.returns

@@ -1,5 +1,4 @@
 use Rattle.flow.specs.Flow.{misplaced, way}
-use Rattle.std.proofs.Common.{rules}
 use Rattle.flow.proofs.is_misplaced.Goals as goal
 
 pub returns : goal.returns

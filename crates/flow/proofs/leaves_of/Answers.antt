@@ -1,5 +1,4 @@
 use Rattle.flow.specs.Flow.{leaves}
-use Rattle.std.proofs.Common.{rules}
 use Rattle.flow.proofs.leaves_of.Goals as goal
 
 pub returns-in-Next : goal.returns-in-Next

@@ -1,5 +1,4 @@
 use Rattle.flow.specs.Flow.{machine_length}
-use Rattle.std.proofs.Common.{rules}
 use Rattle.flow.proofs.machine_length_of.Goals as goal
 
 pub returns : goal.returns

@@ -1,5 +1,4 @@
 use Rattle.flow.specs.Flow.{opened}
-use Rattle.std.proofs.Common.{rules}
 use Rattle.flow.proofs.opened_of.Goals as goal
 
 pub returns-in-Nothing : goal.returns-in-Nothing

@@ -1,5 +1,4 @@
 use Rattle.flow.specs.Flow.{own_condition}
-use Rattle.std.proofs.Common.{rules}
 use Rattle.flow.proofs.own_condition_of.Goals as goal
 
 pub returns : goal.returns

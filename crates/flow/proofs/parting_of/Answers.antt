@@ -1,4 +1,3 @@
-use Rattle.std.proofs.Common.{rules}
 use Rattle.flow.proofs.parting_of.Goals as goal
 
 pub returns : goal.returns

@@ -1,4 +1,4 @@
-use Rattle.std.proofs.Common.{to_z-of_z, w32, rules}
+use Rattle.std.proofs.Common.{to_z-of_z, w32}
 use Rattle.flow.specs.Flow.{target}
 use Rattle.flow.proofs.target_of.Goals as goal
 

@@ -1,5 +1,4 @@
 use Rattle.flow.specs.Flow.{after}
-use Rattle.std.proofs.Common.{rules}
 use Rattle.flow.proofs.waiting_after.Goals as goal
 
 pub returns : goal.returns

@@ -1,5 +1,4 @@
 use Rattle.flow.specs.Flow.{way}
-use Rattle.std.proofs.Common.{rules}
 use Rattle.flow.proofs.way_of.Goals as goal
 
 pub returns : goal.returns

@@ -1,5 +1,4 @@
 use Rattle.judge.specs.Judge.{judged}
-use borrow.Author.Rules.{rules}
 use Rattle.judge.proofs.judge.Goals as goal
 
 pub returns-in_default : goal.returns-in_default

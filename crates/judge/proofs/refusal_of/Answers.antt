@@ -1,5 +1,4 @@
 use Rattle.judge.specs.Judge.{refusal}
-use borrow.Author.Rules.{rules}
 use Rattle.judge.proofs.refusal_of.Goals as goal
 
 pub returns-then-fine : goal.returns-then-fine

@@ -1,6 +1,5 @@
 use Rattle.little.specs.Little.{little}
 use Rattle.kinds.specs.Kinds.{add_number_from}
-use borrow.Author.Rules.{rules}
 use Rattle.kinds.proofs.add_number_from.Goals as goal
 
 pub returns : goal.returns

@@ -1,5 +1,4 @@
 use Rattle.kinds.specs.Kinds.{bit_field_from}
-use borrow.Author.Rules.{rules}
 use Rattle.kinds.proofs.bit_field_from.Goals as goal
 
 pub returns : goal.returns

@@ -2,7 +2,6 @@ use mir.Syntax.{w32}
 use mir.Facts.{to_z-of_z}
 use Rattle.little.specs.Little.{little}
 use Rattle.kinds.specs.Kinds.{branch_from}
-use borrow.Author.Rules.{rules}
 use Rattle.kinds.proofs.branch_from.Goals as goal
 
 pub returns : goal.returns

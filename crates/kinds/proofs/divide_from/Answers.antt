@@ -1,5 +1,4 @@
 use Rattle.kinds.specs.Kinds.{divide_from}
-use borrow.Author.Rules.{rules}
 use Rattle.kinds.proofs.divide_from.Goals as goal
 
 pub returns : goal.returns

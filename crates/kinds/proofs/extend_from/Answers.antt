@@ -1,5 +1,4 @@
 use Rattle.kinds.specs.Kinds.{extend_from}
-use borrow.Author.Rules.{rules}
 use Rattle.kinds.proofs.extend_from.Goals as goal
 
 pub returns : goal.returns

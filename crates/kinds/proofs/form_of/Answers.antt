@@ -1,5 +1,4 @@
 use Rattle.kinds.specs.Kinds.{form}
-use borrow.Author.Rules.{rules}
 use Rattle.kinds.proofs.form_of.Goals as goal
 
 pub returns : goal.returns

@@ -1,5 +1,4 @@
 use Rattle.kinds.specs.Kinds.{if_then_from}
-use borrow.Author.Rules.{rules}
 use Rattle.kinds.proofs.if_then_from.Goals as goal
 
 pub returns : goal.returns

@@ -1,5 +1,4 @@
 use Rattle.kinds.specs.Kinds.{indexed_access_from}
-use borrow.Author.Rules.{rules}
 use Rattle.kinds.proofs.indexed_access_from.Goals as goal
 
 pub returns : goal.returns

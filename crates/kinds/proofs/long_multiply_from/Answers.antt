@@ -1,5 +1,4 @@
 use Rattle.kinds.specs.Kinds.{long_multiply_from}
-use borrow.Author.Rules.{rules}
 use Rattle.kinds.proofs.long_multiply_from.Goals as goal
 
 pub returns : goal.returns

@@ -1,6 +1,5 @@
 use Rattle.little.specs.Little.{little}
 use Rattle.kinds.specs.Kinds.{multiple_access_from}
-use borrow.Author.Rules.{rules}
 use Rattle.kinds.proofs.multiple_access_from.Goals as goal
 
 pub returns : goal.returns

@@ -2,7 +2,6 @@ use lib.ListN.{get_or-eq_default}
 use Rattle.word.proofs.Cases.{not_below}
 use Rattle.little.specs.Little.{byte, little}
 use Rattle.kinds.specs.Kinds.{record_of, readings, nop_from}
-use borrow.Author.Rules.{rules}
 use Rattle.kinds.proofs.record_from.Goals as goal
 
 pub returns-in-0 : goal.returns-in-0

@@ -1,5 +1,4 @@
 use Rattle.kinds.specs.Kinds.{register_branch_from}
-use borrow.Author.Rules.{rules}
 use Rattle.kinds.proofs.register_branch_from.Goals as goal
 
 pub returns : goal.returns

@@ -1,5 +1,4 @@
 use Rattle.kinds.specs.Kinds.{shifted_register_from}
-use borrow.Author.Rules.{rules}
 use Rattle.kinds.proofs.shifted_register_from.Goals as goal
 
 pub returns : goal.returns

@@ -2,7 +2,6 @@ use Prim.Native.Nat.{◌*◌, ◌%◌, ◌^◌}
 use mathlib.Core.List.{[], ◌∷◌}
 use mathlib.Core.Path.{◌≡◌}
 use native.Mathlib.Omega.{arith}
-use borrow.Author.Rules.{rules}
 use Rattle.little.specs.Little.{little}
 use Rattle.little.proofs.Laws.{joined_at}
 use Rattle.kinds.proofs.word_of.Goals as goal

@@ -1,5 +1,4 @@
 use Rattle.layout.specs.Code.{seen_filled}
-use Rattle.std.proofs.Common.{rules}
 use Rattle.layout.proofs.is_filled.Goals as goal
 
 pub returns-in-Goes : goal.returns-in-Goes

@@ -1,5 +1,4 @@
 use Rattle.layout.specs.Layout.{free}
-use Rattle.std.proofs.Common.{rules}
 use Rattle.layout.proofs.is_free.Goals as goal
 
 pub returns : goal.returns

@@ -1,5 +1,4 @@
 use Rattle.layout.specs.Code.{in_64_bits, passed}
-use Rattle.std.proofs.Common.{rules}
 use Rattle.layout.proofs.next_of.Goals as goal
 
 pub returns : goal.returns

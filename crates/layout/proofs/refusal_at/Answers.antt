@@ -1,5 +1,4 @@
 use Rattle.layout.specs.Layout.{refusal_at}
-use Rattle.std.proofs.Common.{rules}
 use Rattle.layout.proofs.refusal_at.Goals as goal
 
 pub returns-then-point : goal.returns-then-point

@@ -1,6 +1,5 @@
 use Rattle.layout.specs.Code.{seen}
 use Rattle.layout.specs.Layout.{meets, judged_at}
-use Rattle.std.proofs.Common.{rules}
 use Rattle.layout.proofs.see.Goals as goal
 
 pub returns-then-at_end : goal.returns-then-at_end

@@ -1,7 +1,6 @@
 use Rattle.flow.specs.Flow.{machine_length, way, after}
 use Rattle.layout.specs.Layout.{next, judged_at}
 use Rattle.layout.specs.Code.{passed, seen}
-use Rattle.std.proofs.Common.{rules}
 use Rattle.layout.proofs.see_record.Goals as goal
 
 pub returns-then-stands : goal.returns-then-stands

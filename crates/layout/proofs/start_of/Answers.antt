@@ -1,5 +1,4 @@
 use Rattle.layout.specs.Layout.{start}
-use Rattle.std.proofs.Common.{rules}
 use Rattle.layout.proofs.start_of.Goals as goal
 
 pub returns : goal.returns

@@ -1,7 +1,6 @@
 use Prim.Native.Nat.{◌*◌, ◌%◌, ◌^◌}
 use mathlib.Core.Path.{◌≡◌, sym, ◌∙◌}
 use native.Mathlib.Omega.{arith}
-use borrow.Author.Rules.{rules}
 use Rattle.little.proofs.Laws.{past, joined_at, one_byte}
 use Rattle.little.proofs.half_at.Goals as goal
 

@@ -1,5 +1,4 @@
 use Rattle.machine.specs.Machine.{steady}
-use Rattle.std.proofs.Common.{rules}
 use Rattle.machine.proofs.is_steady.Goals as goal
 
 pub returns : goal.returns

@@ -1,4 +1,4 @@
-use Rattle.std.proofs.Common.{rules, ne_eqb}
+use Rattle.std.proofs.Common.{ne_eqb}
 use Rattle.machine.specs.Machine.{kept}
 use Rattle.machine.proofs.kept_of.Goals as goal
 

@@ -1,5 +1,4 @@
 use Rattle.machine.specs.Machine.{ruling}
-use Rattle.std.proofs.Common.{rules}
 use Rattle.machine.proofs.ruling_of.Goals as goal
 
 pub returns-then-free : goal.returns-then-free

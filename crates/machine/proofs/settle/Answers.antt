@@ -1,5 +1,4 @@
 use Rattle.machine.specs.Machine.{settled}
-use Rattle.std.proofs.Common.{rules}
 use Rattle.machine.proofs.settle.Goals as goal
 
 pub returns-then-steady : goal.returns-then-steady

@@ -1,4 +1,3 @@
-use Rattle.std.proofs.Common.{rules}
 use Rattle.machine.specs.Step.{effect}
 use Rattle.machine.proofs.take_effect.Goals as goal
 

@@ -1,6 +1,3 @@
-use Rattle.std.proofs.Common.{◌≡◌, ◌+◌, ◌*◌, ◌/◌, ◌%◌, ◌^◌, ◌<◌, ◌≤◌, length, slice_set, ℕ, ◌-◌}
-use Rattle.little.specs.Little.{number_at}
-use Rattle.memory.specs.Memory.{holds, inside, byte_at, put_byte, loaded, stored}
 use Rattle.memory.proofs.+load_each.Given as goal
 
 -- proposed from what the function passes where it calls itself

@@ -1,4 +1,4 @@
-use Rattle.std.proofs.Common.{◌∙◌, rules}
+use Rattle.std.proofs.Common.{◌∙◌}
 use Rattle.memory.proofs.Laws.{byte_below, byte_from_base}
 use Rattle.memory.proofs.byte_of.Goals as goal
 

@@ -1,4 +1,4 @@
-use Rattle.std.proofs.Common.{◌≡◌, ◌-◌, ◌≤◌, true, false, sym, refl, ap, ◌∙◌, arith, rules}
+use Rattle.std.proofs.Common.{◌≡◌, true, false, sym, refl, ap, ◌∙◌, arith}
 use Rattle.memory.specs.Memory.{inside, holds, further}
 use Rattle.memory.proofs.Laws.{outside, inside_more}
 use Rattle.memory.proofs.is_each_inside.Goals as goal

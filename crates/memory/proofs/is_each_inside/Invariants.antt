@@ -1,6 +1,5 @@
-use Rattle.std.proofs.Common.{◌≡◌, ◌-◌, ◌≤◌, true, false, sym, refl, ap, ◌∙◌, arith, rules}
-use Rattle.memory.specs.Memory.{inside, holds, further}
-use Rattle.memory.proofs.Laws.{outside, inside_more}
+use Rattle.std.proofs.Common.{◌≡◌, ◌-◌, ◌≤◌, true}
+use Rattle.memory.specs.Memory.{inside}
 use Rattle.memory.proofs.is_each_inside.Given as goal
 
 abbrev pub invariant-loop-i : goal.invariant-loop-i

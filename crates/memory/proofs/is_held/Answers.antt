@@ -1,4 +1,3 @@
-use Rattle.std.proofs.Common.{rules}
 use borrow.Author.Tests.{lt-leb}
 use Rattle.memory.proofs.Laws.{held_by_offset}
 use Rattle.memory.proofs.is_held.Goals as goal

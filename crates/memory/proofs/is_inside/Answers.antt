@@ -1,4 +1,4 @@
-use Rattle.std.proofs.Common.{length, sym, rules}
+use Rattle.std.proofs.Common.{length, sym}
 use Rattle.memory.proofs.Laws.{quick_inside}
 use Rattle.memory.proofs.is_inside.Goals as goal
 

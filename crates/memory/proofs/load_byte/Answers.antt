@@ -1,4 +1,4 @@
-use Rattle.std.proofs.Common.{◌≡◌, ◌+◌, ◌%◌, ◌^◌, sym, ◌∙◌, arith, rules}
+use Rattle.std.proofs.Common.{◌≡◌, ◌+◌, ◌%◌, ◌^◌, sym, ◌∙◌, arith}
 use Rattle.little.specs.Little.{little}
 use Rattle.little.proofs.Laws.{one_byte}
 use Rattle.memory.specs.Memory.{loaded}

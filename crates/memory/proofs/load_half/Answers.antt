@@ -1,4 +1,4 @@
-use Rattle.std.proofs.Common.{sym, ◌∙◌, rules}
+use Rattle.std.proofs.Common.{sym, ◌∙◌}
 use Rattle.memory.proofs.Laws.{quick_loaded}
 use Rattle.memory.proofs.load_half.Goals as goal
 

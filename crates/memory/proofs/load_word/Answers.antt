@@ -1,4 +1,4 @@
-use Rattle.std.proofs.Common.{◌≡◌, ◌*◌, ◌%◌, ◌^◌, sym, ap, ◌∙◌, arith, rules}
+use Rattle.std.proofs.Common.{◌≡◌, ◌*◌, ◌%◌, ◌^◌, sym, ap, ◌∙◌, arith}
 use lib.Bits.{bit_or}
 use Rattle.little.proofs.Laws.{joined_at}
 use Rattle.memory.proofs.Laws.{quick_loaded}

@@ -1,4 +1,4 @@
-use Rattle.std.proofs.Common.{arith, rules}
+use Rattle.std.proofs.Common.{arith}
 use Rattle.memory.proofs.offset_of.Goals as goal
 
 pub returns-then-size-setup : goal.returns-then-size-setup

@@ -1,4 +1,3 @@
-use Rattle.std.proofs.Common.{rules}
 use Rattle.memory.proofs.Laws.{put_below, put_here, put_past}
 use Rattle.memory.proofs.put.Goals as goal
 

@@ -1,4 +1,4 @@
-use Rattle.std.proofs.Common.{refl, arith, length-set, rules}
+use Rattle.std.proofs.Common.{refl, arith, length-set}
 use Rattle.memory.proofs.put_half_in.Goals as goal
 
 pub bounds-memory-at-2 : goal.bounds-memory-at-2

@@ -1,4 +1,4 @@
-use Rattle.std.proofs.Common.{add-zero, div-one, rules}
+use Rattle.std.proofs.Common.{add-zero, div-one}
 use Rattle.memory.proofs.Laws.{quick_stored, laid}
 use Rattle.memory.proofs.store_half.Goals as goal
 

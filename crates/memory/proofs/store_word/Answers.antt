@@ -1,4 +1,4 @@
-use Rattle.std.proofs.Common.{◌≡◌, ◌+◌, ◌/◌, ◌^◌, add-zero, div-one, arith, rules}
+use Rattle.std.proofs.Common.{◌≡◌, ◌+◌, ◌/◌, ◌^◌, add-zero, div-one, arith}
 use Rattle.memory.proofs.Laws.{quick_stored, laid}
 use Rattle.memory.proofs.store_word.Goals as goal
 

@@ -1,5 +1,4 @@
 use Rattle.operate.specs.Operate.{added}
-use borrow.Author.Rules.{rules}
 use Rattle.operate.proofs.add.Goals as goal
 
 pub returns-in-Addw : goal.returns-in-Addw

@@ -1,5 +1,4 @@
 use Rattle.operate.specs.Operate.{constant_operand}
-use borrow.Author.Rules.{rules}
 use Rattle.operate.proofs.constant_operand_of.Goals as goal
 
 pub returns : goal.returns

@@ -1,5 +1,4 @@
 use Rattle.operate.specs.Operate.{divided}
-use borrow.Author.Rules.{rules}
 use Rattle.operate.proofs.divide.Goals as goal
 
 pub returns-in-Sdiv : goal.returns-in-Sdiv

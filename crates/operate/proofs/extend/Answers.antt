@@ -1,5 +1,4 @@
 use Rattle.operate.specs.Operate.{extended}
-use borrow.Author.Rules.{rules}
 use Rattle.operate.proofs.extend.Goals as goal
 
 pub returns-in-Sxtb : goal.returns-in-Sxtb

@@ -1,5 +1,4 @@
 use Rattle.operate.specs.Operate.{multiplied}
-use borrow.Author.Rules.{rules}
 use Rattle.operate.proofs.multiply.Goals as goal
 
 pub returns-in-Mul : goal.returns-in-Mul

@@ -1,5 +1,4 @@
 use Rattle.operate.specs.Operate.{multiplied_long}
-use borrow.Author.Rules.{rules}
 use Rattle.operate.proofs.multiply_long.Goals as goal
 
 pub returns-in-Umull : goal.returns-in-Umull

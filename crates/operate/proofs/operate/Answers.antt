@@ -1,5 +1,4 @@
 use Rattle.operate.specs.Operate.{operated}
-use borrow.Author.Rules.{rules}
 use Rattle.operate.proofs.operate.Goals as goal
 
 pub returns-in-Add : goal.returns-in-Add

@@ -3,7 +3,6 @@ use mathlib.Core.Path.{◌≡◌}
 use native.Mathlib.Omega.{arith}
 use lib.Bits.{and_mask, or_shifted}
 use Rattle.operate.specs.Operate.{placed_number}
-use borrow.Author.Rules.{rules}
 use Rattle.operate.proofs.place_number.Goals as goal
 
 pub returns-in-Movw : goal.returns-in-Movw

@@ -1,7 +1,6 @@
 use Rattle.operate.specs.Operate.{saturated}
 use mir.Facts.{to_z-of_z}
 use mir.Syntax.{w32}
-use borrow.Author.Rules.{rules}
 use Rattle.operate.proofs.saturate.Goals as goal
 
 pub returns-in-Ssat : goal.returns-in-Ssat

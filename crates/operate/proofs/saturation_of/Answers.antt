@@ -1,7 +1,6 @@
 use Rattle.operate.specs.Operate.{saturation}
 use mir.Facts.{to_z-of_z}
 use mir.Syntax.{w32}
-use borrow.Author.Rules.{rules}
 use Rattle.operate.proofs.saturation_of.Goals as goal
 
 pub returns : goal.returns

@@ -1,5 +1,4 @@
 use Rattle.operate.specs.Operate.{fielded}
-use borrow.Author.Rules.{rules}
 use Rattle.operate.proofs.set_field.Goals as goal
 
 pub returns-in-Bfc : goal.returns-in-Bfc

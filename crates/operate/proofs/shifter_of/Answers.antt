@@ -1,5 +1,4 @@
 use Rattle.operate.specs.Operate.{shifter}
-use borrow.Author.Rules.{rules}
 use Rattle.operate.proofs.shifter_of.Goals as goal
 
 pub returns-in-Lsl : goal.returns-in-Lsl

@@ -1,5 +1,4 @@
 use Rattle.operate.specs.Operate.{unary_result}
-use borrow.Author.Rules.{rules}
 use Rattle.operate.proofs.unary.Goals as goal
 
 pub returns-in-Clz : goal.returns-in-Clz

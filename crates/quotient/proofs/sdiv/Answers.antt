@@ -1,6 +1,5 @@
 use Prim.Native.Nat.{◌-◌, ◌^◌}
 use mathlib.Core.Path.{◌≡◌, ap, sym, ◌∙◌}
-use mathlib.Core.Logic.{⊎_elim}
 use native.Mathlib.Omega.{arith}
 use lib.IntN.{negsuc}
 use lib.Signed.{quot_z}
@@ -8,7 +7,6 @@ use mir.Syntax.{w32}
 use mir.Val.{SFits, to_z, of_z}
 use mir.Facts.{to_z-of_z}
 use borrow.Author.Tests.{eq-eqb, ne_eqb}
-use borrow.Author.Rules.{rules}
 use Rattle.word.specs.Word.{signed, wrapped, signed_in}
 use Rattle.quotient.specs.Quotient.{SDIV}
 use Rattle.word.proofs.Integers.{bits_of_signed}
@@ -42,8 +40,8 @@ words c =
 apart : (c : goal.After-signed_of-2) → c.signed_of.result ≡ negsuc (2 ^ 31 - 1) → c.signed_of-2.result ≡ negsuc 0 → ⊥
 apart c minimum minus_one =
     elim c.if-x-eq2147483648.branch [
-      then-x-eq2147483648+else-y-eq4294967295 w ↦ w.if-y-eq4294967295.false (sym (words c).1 ∙ ap (of_z w32) minus_one)
-    | else-x-eq2147483648 w ↦ w.if-x-eq2147483648.false (sym (words c).0 ∙ ap (of_z w32) minimum)
+      | then-x-eq2147483648+else-y-eq4294967295 w ↦ w.if-y-eq4294967295.false (sym (words c).1 ∙ ap (of_z w32) minus_one)
+      | else-x-eq2147483648 w ↦ w.if-x-eq2147483648.false (sym (words c).0 ∙ ap (of_z w32) minimum)
     ]
 
 -- what the quotient is, and that it is an i32

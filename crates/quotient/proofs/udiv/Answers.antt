@@ -1,5 +1,4 @@
 use borrow.Author.Tests.{eq-eqb, ne_eqb}
-use borrow.Author.Rules.{rules}
 use Rattle.quotient.specs.Quotient.{UDIV}
 use Rattle.quotient.proofs.udiv.Goals as goal
 

@@ -1,4 +1,3 @@
-use borrow.Author.Rules.{rules}
 use borrow.Author.Tests.{ne_eqb}
 use Rattle.reading.specs.Reading.{coded}
 use Rattle.reading.proofs.is_coded.Goals as goal

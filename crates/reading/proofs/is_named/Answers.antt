@@ -1,6 +1,5 @@
 use mathlib.Core.Path.{◌≡◌}
 use mathlib.Core.Bool.{true, false, ◌||◌}
-use borrow.Author.Rules.{rules}
 use lib.Dec.{eqb}
 use Rattle.little.specs.Little.{byte}
 use Rattle.reading.specs.Reading.{named}
@@ -8,7 +7,6 @@ use Rattle.reading.proofs.is_named.Goals as goal
 
 pub returns-then-filler : goal.returns-then-filler
 unfolding named
-
 returns-then-filler c = let t : eqb (byte c.args.r 0) 0x17 ≡ true = c.if-filler.true-raw in rw t
 
 pub returns-then-without_op : goal.returns-then-without_op

@@ -1,4 +1,3 @@
-use borrow.Author.Rules.{rules}
 use Rattle.reading.proofs.judged.Goals as goal
 
 pub returns-then-formed : goal.returns-then-formed

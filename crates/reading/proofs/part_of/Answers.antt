@@ -2,12 +2,10 @@ use Prim.Native.Nat.{ℕ, ◌+◌, ◌-◌}
 use mathlib.Core.List.{List, []}
 use mathlib.Core.Path.{◌≡◌, sym, ap, ◌∙◌}
 use native.Mathlib.Omega.{arith}
-use borrow.Author.Rules.{rules}
 use lib.ListN.{length, take, drop, length-drop, drop_of_length-le}
 use lib.Seq.{take_all}
 use Rattle.little.specs.Little.{byte}
 use Rattle.kinds.specs.Kinds.{listing_length}
-use Rattle.reading.specs.Reading.{part}
 use Rattle.reading.proofs.part_of.Goals as goal
 use Rattle.reading.proofs.part_of.Goals.{After-listing_length_of-size, After-result-2-1, After-result-then-end-at-2-1}
 

@@ -1,5 +1,4 @@
 use mathlib.Core.Bool.{true, false}
-use borrow.Author.Rules.{rules}
 use Rattle.reading.specs.Reading.{read_one}
 use Rattle.reading.proofs.Laws.{record_nine, whole}
 use Rattle.reading.proofs.read_all.Goals as goal

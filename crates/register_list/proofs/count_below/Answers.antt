@@ -2,7 +2,6 @@ use mathlib.Core.Path.{sym}
 use native.Mathlib.Omega.{arith}
 use Prim.Native.Nat.{min}
 use lib.Bits.{and_mask}
-use borrow.Author.Rules.{rules}
 use Rattle.word.proofs.Numbers.{ones_mod, mod_min}
 use Rattle.register_list.proofs.Laws.{members_are_ones}
 use Rattle.register_list.proofs.count_below.Goals as goal

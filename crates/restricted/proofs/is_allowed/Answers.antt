@@ -1,5 +1,4 @@
 use Rattle.restricted.specs.Restricted.{allowed}
-use borrow.Author.Rules.{rules}
 use Rattle.restricted.proofs.is_allowed.Goals as goal
 
 pub returns-in-ShiftedRegister : goal.returns-in-ShiftedRegister

@@ -1,7 +1,6 @@
 use Prim.Native.Nat.{ℕ}
 use mathlib.Core.Path.{◌≡◌}
 use native.Mathlib.Omega.{arith}
-use borrow.Author.Rules.{rules}
 use Rattle.shift.specs.Shift.{rotated}
 use Rattle.reverse.specs.Reverse.{REV, REV16}
 use Rattle.reverse.proofs.rev.Goals as goal

@@ -1,4 +1,3 @@
-use borrow.Author.Rules.{rules}
 use Rattle.reverse.specs.Reverse.{REVSH}
 use Rattle.reverse.proofs.revsh.Goals as goal
 

@@ -5,7 +5,6 @@ use lib.Pow.{pow_mono, pow_pos}
 use lib.IntN.{pos}
 use mir.Syntax.{w32}
 use mir.Facts.{to_z-of_z}
-use borrow.Author.Rules.{rules}
 use Rattle.saturate.proofs.most_of.Goals as goal
 
 pub returns-then-bits-ge31 : goal.returns-then-bits-ge31

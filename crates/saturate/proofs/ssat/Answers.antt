@@ -1,11 +1,10 @@
 use Prim.Native.Nat.{◌^◌, ◌-◌, min}
-use mathlib.Core.Path.{◌≡◌, refl, ap, ◌∙◌}
+use mathlib.Core.Path.{◌≡◌, refl, ◌∙◌}
 use native.Mathlib.Omega.{arith}
 use lib.IntN.{pos, negsuc, ◌-ℤ◌}
 use mir.Syntax.{w32}
 use mir.Val.{SFits, to_z}
 use mir.Facts.{to_z-of_z}
-use borrow.Author.Rules.{rules}
 use Rattle.word.proofs.Integers.{minus_one_less}
 use Rattle.saturate.specs.Saturate.{SSAT}
 use Rattle.saturate.proofs.Laws.{most_held, least_held}
@@ -15,8 +14,8 @@ use Rattle.saturate.proofs.ssat.Goals.{Joined-bits-eq0, then-bits-eq0, else-bits
 most : (c : Joined-bits-eq0) → to_z w32 c.if-bits-eq0.most-bits ≡ pos (min (2 ^ (c.args.bits - 1)) (2 ^ 31) - 1)
 most c =
     elim c.if-bits-eq0.branch [
-      then-bits-eq0 w ↦ rw (w.most-is, w.if-bits-eq0.true)
-    | else-bits-eq0 w ↦ w.most-is ∙ to_z-of_z {w = w32} {z = w.most_of-most.result} (record { sfits = w.most_of-most.type_inv }) ∙ w.most_of-most.ensures
+      | then-bits-eq0 w ↦ rw (w.most-is, w.if-bits-eq0.true)
+      | else-bits-eq0 w ↦ w.most-is ∙ to_z-of_z {w = w32} {z = w.most_of-most.result} (record { sfits = w.most_of-most.type_inv }) ∙ w.most_of-most.ensures
     ]
 
 -- the least, and that it is an i32

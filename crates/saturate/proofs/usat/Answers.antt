@@ -1,6 +1,5 @@
 use lib.IntN.{pos}
 use mir.Facts.{to_z-of_z}
-use borrow.Author.Rules.{rules}
 use Rattle.saturate.specs.Saturate.{USAT}
 use Rattle.saturate.proofs.Laws.{most_held}
 use Rattle.saturate.proofs.usat.Goals as goal

@@ -1,5 +1,4 @@
 use Rattle.transfer.specs.Transfer.{alignment}
-use Rattle.std.proofs.Common.{rules}
 use Rattle.transfer.proofs.alignment_of.Goals as goal
 
 pub returns-then-whole : goal.returns-then-whole

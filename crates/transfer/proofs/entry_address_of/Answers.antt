@@ -1,4 +1,4 @@
-use Rattle.std.proofs.Common.{◌*◌, arith, rules}
+use Rattle.std.proofs.Common.{◌*◌, arith}
 use Rattle.transfer.specs.Transfer.{entry_width, entry_address}
 use Rattle.transfer.proofs.Laws.{wrapped_after}
 use Rattle.transfer.proofs.entry_address_of.Goals as goal

@@ -1,5 +1,4 @@
 use Rattle.transfer.specs.Transfer.{entry_width}
-use Rattle.std.proofs.Common.{rules}
 use Rattle.transfer.proofs.entry_width_of.Goals as goal
 
 pub returns-in-Tbb : goal.returns-in-Tbb

@@ -1,4 +1,4 @@
-use Rattle.std.proofs.Common.{◌≡◌, ℕ, ◌%◌, true, eqb, arith, rules, eq-eqb}
+use Rattle.std.proofs.Common.{◌≡◌, ℕ, ◌%◌, true, eqb, arith, eq-eqb}
 use Rattle.transfer.specs.Transfer.{multiple}
 use Rattle.transfer.proofs.is_aligned.Goals as goal
 

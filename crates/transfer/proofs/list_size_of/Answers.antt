@@ -1,5 +1,5 @@
 use Rattle.transfer.specs.Transfer.{list_size}
-use Rattle.std.proofs.Common.{arith, rules}
+use Rattle.std.proofs.Common.{arith}
 use Rattle.register_list.proofs.Laws.{members_le}
 use Rattle.transfer.proofs.list_size_of.Goals as goal
 

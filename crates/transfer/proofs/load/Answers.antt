@@ -1,5 +1,4 @@
 use Rattle.transfer.specs.Transfer.{load_value}
-use Rattle.std.proofs.Common.{rules}
 use Rattle.transfer.proofs.load.Goals as goal
 
 pub returns-in-Ldr : goal.returns-in-Ldr

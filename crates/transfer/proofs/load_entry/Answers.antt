@@ -1,5 +1,4 @@
 use Rattle.transfer.specs.Transfer.{entry_width}
-use Rattle.std.proofs.Common.{rules}
 use Rattle.transfer.proofs.load_entry.Goals as goal
 
 pub returns-in-Tbb : goal.returns-in-Tbb

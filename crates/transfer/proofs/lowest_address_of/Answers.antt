@@ -1,4 +1,4 @@
-use Rattle.std.proofs.Common.{arith, rules}
+use Rattle.std.proofs.Common.{arith}
 use Rattle.transfer.proofs.Laws.{is_lower}
 use Rattle.transfer.specs.Transfer.{lowest_address}
 use Rattle.transfer.proofs.lowest_address_of.Goals as goal

@@ -1,4 +1,4 @@
-use Rattle.std.proofs.Common.{to_z-of_z, w16, w32, rules}
+use Rattle.std.proofs.Common.{to_z-of_z, w16, w32}
 use mir.Facts.{sfits_widen}
 use Rattle.transfer.proofs.moved_by.Goals as goal
 

@@ -1,4 +1,4 @@
-use Rattle.std.proofs.Common.{arith, rules}
+use Rattle.std.proofs.Common.{arith}
 use Rattle.transfer.proofs.Laws.{is_lower}
 use Rattle.transfer.specs.Transfer.{new_base}
 use Rattle.transfer.proofs.new_base_of.Goals as goal

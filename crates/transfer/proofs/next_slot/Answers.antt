@@ -1,4 +1,3 @@
-use Rattle.std.proofs.Common.{rules}
 use Rattle.transfer.proofs.next_slot.Goals as goal
 
 pub returns-then-listed : goal.returns-then-listed

@@ -1,5 +1,4 @@
 use Rattle.transfer.specs.Transfer.{reached}
-use Rattle.std.proofs.Common.{rules}
 use Rattle.transfer.proofs.reached_of.Goals as goal
 
 pub returns-in-Offset : goal.returns-in-Offset

@@ -1,5 +1,4 @@
 use Rattle.transfer.specs.Transfer.{access_refusal}
-use Rattle.std.proofs.Common.{rules}
 use Rattle.transfer.proofs.refusal_of.Goals as goal
 
 pub returns-then-unaligned : goal.returns-then-unaligned

@@ -1,5 +1,4 @@
 use Rattle.transfer.specs.Transfer.{after_store}
-use Rattle.std.proofs.Common.{rules}
 use Rattle.transfer.proofs.store.Goals as goal
 
 pub returns-in-Ldr : goal.returns-in-Ldr

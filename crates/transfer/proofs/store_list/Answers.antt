@@ -1,5 +1,5 @@
-use Rattle.std.proofs.Common.{◌≡◌, ◌-◌, ◌≤◌, length, refl, ◌∙◌, arith, rules}
-use Rattle.transfer.specs.Transfer.{slot, list_stored}
+use Rattle.std.proofs.Common.{◌≡◌, length, refl, ◌∙◌, arith, rules}
+use Rattle.transfer.specs.Transfer.{list_stored}
 use Rattle.transfer.proofs.Laws.{slot_first, slot_next, stored_next}
 use Rattle.transfer.proofs.store_list.Goals as goal
 
@@ -21,5 +21,4 @@ loop-i-preserved c =
     )
 
 pub returns : goal.returns
-
 returns c = let l = c.loop-i in let e : 16 ≡ l.i = omega arith in rw e l.invariant.3

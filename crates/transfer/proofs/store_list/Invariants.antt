@@ -1,6 +1,5 @@
-use Rattle.std.proofs.Common.{◌≡◌, ◌-◌, ◌≤◌, length, refl, ◌∙◌, arith, rules}
+use Rattle.std.proofs.Common.{◌≡◌, ◌-◌, ◌≤◌, length}
 use Rattle.transfer.specs.Transfer.{slot, list_stored}
-use Rattle.transfer.proofs.Laws.{slot_first, slot_next, stored_next}
 use Rattle.transfer.proofs.store_list.Given as goal
 
 abbrev pub invariant-loop-i : goal.invariant-loop-i

@@ -1,4 +1,3 @@
-use Rattle.std.proofs.Common.{rules}
 use Rattle.transfer.proofs.store_one.Goals as goal
 
 pub returns-then-listed : goal.returns-then-listed

@@ -1,4 +1,4 @@
-use Rattle.std.proofs.Common.{◌+◌, ◌*◌, rules}
+use Rattle.std.proofs.Common.{◌+◌, ◌*◌}
 use Rattle.transfer.specs.Transfer.{table_target}
 use Rattle.transfer.proofs.Laws.{wrapped_both}
 use Rattle.transfer.proofs.table_target_of.Goals as goal

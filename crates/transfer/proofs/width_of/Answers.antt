@@ -1,5 +1,4 @@
 use Rattle.transfer.specs.Transfer.{width}
-use Rattle.std.proofs.Common.{rules}
 use Rattle.transfer.proofs.width_of.Goals as goal
 
 pub returns-in-Ldr : goal.returns-in-Ldr

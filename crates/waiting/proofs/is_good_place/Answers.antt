@@ -1,4 +1,3 @@
-use borrow.Author.Rules.{rules}
 use Rattle.waiting.proofs.is_good_place.Goals as goal
 
 pub returns : goal.returns

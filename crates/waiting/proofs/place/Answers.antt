@@ -1,4 +1,3 @@
-use borrow.Author.Rules.{rules}
 use Rattle.waiting.proofs.place.Goals as goal
 
 pub returns-then-otherwise : goal.returns-then-otherwise

@@ -1,5 +1,4 @@
 use mir.Facts.{to_z-of_z}
-use borrow.Author.Rules.{rules}
 use Rattle.fields.proofs.parts.access_offset_of.Goals as goal
 
 pub returns-then-from_pc : goal.returns-then-from_pc

@@ -1,4 +1,3 @@
-use borrow.Author.Rules.{rules}
 use Rattle.fields.proofs.parts.accumulates_of.Goals as goal
 
 pub returns-in-Mul : goal.returns-in-Mul

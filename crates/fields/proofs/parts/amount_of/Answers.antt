@@ -1,4 +1,3 @@
-use borrow.Author.Rules.{rules}
 use Rattle.fields.proofs.parts.amount_of.Goals as goal
 
 pub returns-in-Lsl : goal.returns-in-Lsl

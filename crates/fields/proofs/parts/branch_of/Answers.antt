@@ -1,7 +1,6 @@
 use lib.Bits.{and_mask}
 use mir.Syntax.{w32}
 use mir.Facts.{to_z-of_z}
-use borrow.Author.Rules.{rules}
 use Rattle.word.proofs.Integers.{wrapped_low}
 use Rattle.fields.proofs.parts.branch_of.Goals as goal
 

@@ -1,4 +1,3 @@
-use borrow.Author.Rules.{rules}
 use Rattle.fields.proofs.parts.data_operands_of.Goals as goal
 
 pub returns : goal.returns

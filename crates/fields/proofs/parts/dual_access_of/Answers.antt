@@ -1,6 +1,5 @@
 use mir.Syntax.{w16}
 use mir.Facts.{to_z-of_z}
-use borrow.Author.Rules.{rules}
 use Rattle.fields.proofs.parts.dual_access_of.Goals as goal
 
 pub returns : goal.returns

@@ -1,7 +1,6 @@
 use lib.Bits.{and_mask}
 use mir.Syntax.{w16, w32}
 use mir.Facts.{to_z-of_z, sfits_widen}
-use borrow.Author.Rules.{rules}
 use Rattle.word.proofs.Integers.{wrapped_low}
 use Rattle.fields.proofs.parts.dual_offset_of.Goals as goal
 

@@ -1,7 +1,6 @@
 use Prim.Native.Nat.{◌-◌, ◌*◌, ◌%◌, ◌^◌}
 use mathlib.Core.Path.{◌≡◌, sym}
 use native.Mathlib.Omega.{arith}
-use borrow.Author.Rules.{rules}
 use borrow.Author.Tests.{lt-ltb}
 use lib.Pow.{pow_mono}
 use Rattle.fields.proofs.parts.elses_fit_of.Goals as goal

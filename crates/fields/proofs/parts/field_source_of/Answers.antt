@@ -1,4 +1,3 @@
-use borrow.Author.Rules.{rules}
 use Rattle.fields.proofs.parts.field_source_of.Goals as goal
 
 pub returns-in-Bfc : goal.returns-in-Bfc

@@ -1,4 +1,3 @@
-use borrow.Author.Rules.{rules}
 use Rattle.fields.proofs.parts.if_then_of.Goals as goal
 
 pub returns : goal.returns

@@ -1,5 +1,4 @@
 use mathlib.Core.Path.{◌≡◌}
-use borrow.Author.Rules.{rules}
 use borrow.Author.Tests.{eqb-true}
 use mir.Facts.{to_z-of_z}
 use Rattle.fields.proofs.parts.reach_of.Goals as goal

@@ -1,4 +1,3 @@
-use borrow.Author.Rules.{rules}
 use Rattle.fields.proofs.parts.saturated_bits_of.Goals as goal
 
 pub returns-in-Ssat : goal.returns-in-Ssat

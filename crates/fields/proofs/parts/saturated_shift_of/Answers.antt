@@ -1,4 +1,3 @@
-use borrow.Author.Rules.{rules}
 use Rattle.fields.proofs.parts.saturated_shift_of.Goals as goal
 
 pub returns-in-Lsl : goal.returns-in-Lsl

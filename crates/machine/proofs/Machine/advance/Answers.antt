@@ -1,5 +1,4 @@
 use Rattle.machine.specs.Machine.{advanced}
-use Rattle.std.proofs.Common.{rules}
 use Rattle.machine.proofs.Machine.advance.Goals as goal
 
 pub returns : goal.returns

@@ -1,4 +1,3 @@
-use Rattle.std.proofs.Common.{rules}
 use Rattle.machine.specs.Step.{considered}
 use Rattle.machine.proofs.Machine.consider.Goals as goal
 

@@ -1,5 +1,4 @@
 use Rattle.machine.specs.Machine.{good}
-use Rattle.std.proofs.Common.{rules}
 use Rattle.machine.proofs.Machine.is_good.Goals as goal
 
 pub returns : goal.returns

@@ -1,5 +1,4 @@
 use Rattle.machine.specs.Machine.{fresh}
-use Rattle.std.proofs.Common.{rules}
 use Rattle.machine.proofs.Machine.new.Goals as goal
 
 pub returns : goal.returns

@@ -1,4 +1,3 @@
-use Rattle.std.proofs.Common.{rules}
 use Rattle.flow.specs.Flow.{machine_length, after, own_condition, traits}
 use Rattle.machine.specs.Step.{obeyed}
 use Rattle.machine.specs.Machine.{condition_passes, onward, skipped}

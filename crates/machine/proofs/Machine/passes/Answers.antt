@@ -1,5 +1,4 @@
 use Rattle.machine.specs.Machine.{condition_passes}
-use Rattle.std.proofs.Common.{rules}
 use Rattle.machine.proofs.Machine.passes.Goals as goal
 
 pub returns : goal.returns

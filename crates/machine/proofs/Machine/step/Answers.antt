@@ -1,4 +1,3 @@
-use Rattle.std.proofs.Common.{rules}
 use Rattle.machine.specs.Step.{stepped, considered}
 use Rattle.machine.proofs.Machine.step.Goals as goal
 

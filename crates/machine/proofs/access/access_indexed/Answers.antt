@@ -1,5 +1,4 @@
 use Rattle.machine.specs.Access.{indexed_access_effect}
-use Rattle.std.proofs.Common.{rules}
 use Rattle.machine.proofs.access.access_indexed.Goals as goal
 
 pub returns : goal.returns

@@ -1,4 +1,3 @@
-use Rattle.std.proofs.Common.{rules}
 use Rattle.machine.specs.Access.{multiple_access_effect}
 use Rattle.machine.proofs.access.access_many.Goals as goal
 

@@ -1,4 +1,4 @@
-use Rattle.std.proofs.Common.{to_z-of_z, w16, rules}
+use Rattle.std.proofs.Common.{to_z-of_z, w16}
 use Rattle.machine.specs.Access.{access_effect}
 use Rattle.machine.proofs.access.access_one.Goals as goal
 

@@ -1,5 +1,4 @@
 use Rattle.machine.specs.Access.{arriving}
-use Rattle.std.proofs.Common.{rules}
 use Rattle.machine.proofs.access.arrive.Goals as goal
 
 pub returns-then-leaves : goal.returns-then-leaves

@@ -1,4 +1,3 @@
-use Rattle.std.proofs.Common.{rules}
 use Rattle.machine.specs.Access.{list_arriving}
 use Rattle.machine.proofs.access.arrive_list.Goals as goal
 

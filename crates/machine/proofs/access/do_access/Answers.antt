@@ -1,5 +1,4 @@
 use Rattle.machine.specs.Access.{access_done}
-use Rattle.std.proofs.Common.{rules}
 use Rattle.machine.proofs.access.do_access.Goals as goal
 
 pub returns-then-fine : goal.returns-then-fine

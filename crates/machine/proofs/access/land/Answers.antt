@@ -1,4 +1,3 @@
-use Rattle.std.proofs.Common.{rules}
 use Rattle.machine.specs.Machine.{landed}
 use Rattle.machine.proofs.access.land.Goals as goal
 

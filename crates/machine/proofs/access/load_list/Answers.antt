@@ -1,5 +1,4 @@
-use Rattle.std.proofs.Common.{◌≡◌, ◌-◌, ◌≤◌, refl, arith, rules}
-use Rattle.transfer.specs.Transfer.{slot}
+use Rattle.std.proofs.Common.{◌≡◌, refl, arith}
 use Rattle.transfer.proofs.Laws.{slot_first, slot_next}
 use Rattle.machine.specs.Access.{list_loaded}
 use Rattle.machine.proofs.Laws.{loaded_next}
@@ -20,5 +19,4 @@ loop-i-preserved c =
     )
 
 pub returns : goal.returns
-
 returns c = let l = c.loop-i in let e : 16 ≡ l.i = omega arith in rw e l.invariant.2

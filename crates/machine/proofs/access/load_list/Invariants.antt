@@ -1,8 +1,6 @@
-use Rattle.std.proofs.Common.{◌≡◌, ◌-◌, ◌≤◌, refl, arith, rules}
+use Rattle.std.proofs.Common.{◌≡◌, ◌-◌, ◌≤◌}
 use Rattle.transfer.specs.Transfer.{slot}
-use Rattle.transfer.proofs.Laws.{slot_first, slot_next}
 use Rattle.machine.specs.Access.{list_loaded}
-use Rattle.machine.proofs.Laws.{loaded_next}
 use Rattle.machine.proofs.access.load_list.Given as goal
 
 abbrev pub invariant-loop-i : goal.invariant-loop-i

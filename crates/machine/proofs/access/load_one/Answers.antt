@@ -1,5 +1,4 @@
 use Rattle.machine.specs.Machine.{written}
-use Rattle.std.proofs.Common.{rules}
 use Rattle.machine.proofs.access.load_one.Goals as goal
 
 pub returns-then-listed : goal.returns-then-listed

@@ -1,5 +1,4 @@
 use Rattle.machine.specs.Access.{access_made, storing}
-use Rattle.std.proofs.Common.{rules}
 use Rattle.machine.proofs.access.make_access.Goals as goal
 
 pub returns-then-loads : goal.returns-then-loads

@@ -1,4 +1,3 @@
-use Rattle.std.proofs.Common.{rules}
 use Rattle.machine.specs.Access.{multiple_made, storing}
 use Rattle.machine.proofs.access.make_many.Goals as goal
 

@@ -1,5 +1,4 @@
 use Rattle.machine.specs.Access.{based}
-use Rattle.std.proofs.Common.{rules}
 use Rattle.machine.proofs.access.write_back.Goals as goal
 
 pub returns-then-plain : goal.returns-then-plain

@@ -1,5 +1,4 @@
 use Rattle.machine.specs.Machine.{written}
-use Rattle.std.proofs.Common.{rules}
 use Rattle.machine.proofs.access.write_list_base.Goals as goal
 
 pub returns-then-writes : goal.returns-then-writes

@@ -1,4 +1,4 @@
-use Rattle.std.proofs.Common.{◌≡◌, rules}
+use Rattle.std.proofs.Common.{◌≡◌}
 use Rattle.transfer.specs.Transfer.{entry_address}
 use Rattle.machine.specs.Machine.{held, operand_value}
 use Rattle.machine.specs.Branch.{table_branch_effect}

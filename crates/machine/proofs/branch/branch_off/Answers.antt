@@ -1,4 +1,3 @@
-use Rattle.std.proofs.Common.{rules}
 use Rattle.machine.specs.Branch.{branch_effect}
 use Rattle.machine.proofs.branch.branch_off.Goals as goal
 

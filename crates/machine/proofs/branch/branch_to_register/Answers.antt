@@ -1,5 +1,4 @@
 use Rattle.machine.specs.Branch.{register_branch_effect}
-use Rattle.std.proofs.Common.{rules}
 use Rattle.machine.proofs.branch.branch_to_register.Goals as goal
 
 pub returns : goal.returns

@@ -1,4 +1,3 @@
-use Rattle.std.proofs.Common.{rules}
 use Rattle.machine.specs.Branch.{compare_branch_effect}
 use Rattle.machine.proofs.branch.compare_and_branch.Goals as goal
 

@@ -1,4 +1,3 @@
-use Rattle.std.proofs.Common.{rules}
 use Rattle.machine.specs.Branch.{direct_target}
 use Rattle.machine.proofs.branch.direct_target_of.Goals as goal
 

@@ -1,5 +1,4 @@
 use Rattle.machine.specs.Branch.{linking}
-use Rattle.std.proofs.Common.{rules}
 use Rattle.machine.proofs.branch.link_if.Goals as goal
 
 pub returns-then-links : goal.returns-then-links

@@ -1,5 +1,4 @@
 use Rattle.machine.specs.Compute.{add_number_effect}
-use Rattle.std.proofs.Common.{rules}
 use Rattle.machine.proofs.compute.add_a_number.Goals as goal
 
 pub returns : goal.returns

@@ -1,5 +1,4 @@
 use Rattle.machine.specs.Compute.{divide_effect}
-use Rattle.std.proofs.Common.{rules}
 use Rattle.machine.proofs.compute.divide.Goals as goal
 
 pub returns : goal.returns

@@ -1,5 +1,4 @@
 use Rattle.machine.specs.Compute.{extend_effect}
-use Rattle.std.proofs.Common.{rules}
 use Rattle.machine.proofs.compute.extend.Goals as goal
 
 pub returns : goal.returns

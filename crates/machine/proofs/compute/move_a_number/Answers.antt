@@ -1,5 +1,4 @@
 use Rattle.machine.specs.Compute.{move_number_effect}
-use Rattle.std.proofs.Common.{rules}
 use Rattle.machine.proofs.compute.move_a_number.Goals as goal
 
 pub returns : goal.returns

@@ -1,5 +1,4 @@
 use Rattle.machine.specs.Compute.{multiply_effect}
-use Rattle.std.proofs.Common.{rules}
 use Rattle.machine.proofs.compute.multiply.Goals as goal
 
 pub returns-then-s : goal.returns-then-s

@@ -1,4 +1,3 @@
-use Rattle.std.proofs.Common.{rules}
 use Rattle.machine.specs.Compute.{long_multiply_effect}
 use Rattle.machine.proofs.compute.multiply_long.Goals as goal
 

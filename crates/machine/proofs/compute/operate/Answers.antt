@@ -1,5 +1,4 @@
 use Rattle.machine.specs.Compute.{data_done}
-use Rattle.std.proofs.Common.{rules}
 use Rattle.machine.proofs.compute.operate.Goals as goal
 
 pub returns : goal.returns

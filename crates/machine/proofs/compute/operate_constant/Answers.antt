@@ -1,5 +1,4 @@
 use Rattle.machine.specs.Compute.{constant_effect}
-use Rattle.std.proofs.Common.{rules}
 use Rattle.machine.proofs.compute.operate_constant.Goals as goal
 
 pub returns : goal.returns

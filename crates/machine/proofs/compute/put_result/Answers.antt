@@ -1,5 +1,4 @@
 use Rattle.machine.specs.Compute.{resulting}
-use Rattle.std.proofs.Common.{rules}
 use Rattle.machine.proofs.compute.put_result.Goals as goal
 
 pub returns-then-puts : goal.returns-then-puts

@@ -1,5 +1,4 @@
 use Rattle.machine.specs.Compute.{saturate_effect}
-use Rattle.std.proofs.Common.{rules}
 use Rattle.machine.proofs.compute.saturate.Goals as goal
 
 pub returns : goal.returns

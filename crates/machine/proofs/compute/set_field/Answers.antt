@@ -1,5 +1,4 @@
 use Rattle.machine.specs.Compute.{bit_field_effect}
-use Rattle.std.proofs.Common.{rules}
 use Rattle.machine.proofs.compute.set_field.Goals as goal
 
 pub returns : goal.returns

@@ -1,5 +1,4 @@
 use Rattle.machine.specs.Compute.{flagged}
-use Rattle.std.proofs.Common.{rules}
 use Rattle.machine.proofs.compute.set_flags.Goals as goal
 
 pub returns-then-s : goal.returns-then-s

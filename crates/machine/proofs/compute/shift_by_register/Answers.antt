@@ -1,5 +1,4 @@
 use Rattle.machine.specs.Compute.{register_shift_effect}
-use Rattle.std.proofs.Common.{rules}
 use Rattle.machine.proofs.compute.shift_by_register.Goals as goal
 
 pub returns : goal.returns

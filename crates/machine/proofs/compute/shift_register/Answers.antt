@@ -1,5 +1,4 @@
 use Rattle.machine.specs.Compute.{shifted_register_effect}
-use Rattle.std.proofs.Common.{rules}
 use Rattle.machine.proofs.compute.shift_register.Goals as goal
 
 pub returns : goal.returns

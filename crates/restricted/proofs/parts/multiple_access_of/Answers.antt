@@ -1,4 +1,3 @@
-use borrow.Author.Rules.{rules}
 use Rattle.restricted.proofs.parts.multiple_access_of.Goals as goal
 
 pub returns : goal.returns

@@ -1,4 +1,3 @@
-use borrow.Author.Rules.{rules}
 use Rattle.restricted.proofs.parts.transferred_of.Goals as goal
 
 pub returns-in-Ldrb : goal.returns-in-Ldrb

@@ -1,4 +1,3 @@
-use borrow.Author.Rules.{rules}
 use borrow.Author.Tests.{lt-ltb, le-ltb}
 use Rattle.text.specs.Code.{pushed}
 use Rattle.text.proofs.Text.push.Goals as goal

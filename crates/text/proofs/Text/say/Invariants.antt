@@ -1,10 +1,7 @@
 use Prim.Native.Nat.{◌-◌, ◌≤◌}
-use mathlib.Core.Path.{◌≡◌, refl}
-use native.Mathlib.Omega.{arith}
-use borrow.Author.Rules.{rules}
-use lib.ListN.{length, drop, drop_of_length-le}
+use mathlib.Core.Path.{◌≡◌}
+use lib.ListN.{length, drop}
 use Rattle.text.specs.Code.{appended}
-use Rattle.text.proofs.Texts.{added_next}
 use Rattle.text.proofs.Text.say.Given as goal
 
 abbrev pub invariant-loop-i : goal.invariant-loop-i

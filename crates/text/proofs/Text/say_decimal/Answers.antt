@@ -1,10 +1,9 @@
-use Prim.Native.Nat.{◌-◌, ◌≤◌}
+use Prim.Native.Nat.{◌-◌}
 use mathlib.Core.Path.{◌≡◌, refl}
-use mathlib.Core.List.{◌++◌, append-nil}
+use mathlib.Core.List.{append-nil}
 use native.Mathlib.Omega.{arith}
-use borrow.Author.Rules.{rules}
 use lib.Seq.{take_all}
-use lib.ListN.{length, drop, set, length-set, length-drop}
+use lib.ListN.{drop, set, length-set, length-drop}
 use Rattle.text.specs.Text.{decimal, decimal_within}
 use Rattle.text.proofs.Texts.{last_digit, one_digit}
 use Rattle.text.proofs.Text.say_decimal.Goals as goal

@@ -1,5 +1,4 @@
 use Rattle.text.specs.Text.{hex}
-use borrow.Author.Rules.{rules}
 use Rattle.text.proofs.Text.say_hex.Goals as goal
 
 pub returns : goal.returns

@@ -1,5 +1,4 @@
 use Rattle.text.specs.Text.{check_text}
-use borrow.Author.Rules.{rules}
 use Rattle.text.proofs.lines.check_text_of.Goals as goal
 
 pub returns : goal.returns

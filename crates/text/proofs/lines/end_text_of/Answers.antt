@@ -1,6 +1,5 @@
 use Rattle.text.specs.Text.{end_line, end_text}
 use Rattle.text.proofs.Texts.{added_append}
-use borrow.Author.Rules.{rules}
 use Rattle.text.proofs.lines.end_text_of.Goals as goal
 
 pub returns : goal.returns

@@ -1,6 +1,5 @@
 use Rattle.text.specs.Text.{flags_line}
 use Rattle.text.specs.Code.{appended}
-use borrow.Author.Rules.{rules}
 use Rattle.text.proofs.lines.say_flags.Goals as goal
 
 pub returns : goal.returns

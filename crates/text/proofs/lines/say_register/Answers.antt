@@ -1,7 +1,6 @@
 use Rattle.text.specs.Text.{register_line}
 use Rattle.text.specs.Code.{appended}
 use Rattle.text.proofs.Texts.{added_append}
-use borrow.Author.Rules.{rules}
 use Rattle.text.proofs.lines.say_register.Goals as goal
 
 pub returns : goal.returns

@@ -1,7 +1,5 @@
-use Prim.Native.Nat.{◌-◌, ◌≤◌}
 use mathlib.Core.Path.{◌≡◌, refl}
 use native.Mathlib.Omega.{arith}
-use borrow.Author.Rules.{rules}
 use Rattle.text.specs.Text.{register_lines}
 use Rattle.text.specs.Code.{appended}
 use Rattle.text.proofs.Texts.{added_line}
@@ -18,5 +16,4 @@ loop-i-preserved c =
     (omega arith, rw (c.say_register-more.ensures, l.invariant.1) (added_line a.text l.i a.registers))
 
 pub returns : goal.returns
-
 returns c = let l = c.loop-i in let e : 16 ≡ l.i = omega arith in rw e l.invariant.1

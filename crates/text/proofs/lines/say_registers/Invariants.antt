@@ -1,10 +1,7 @@
 use Prim.Native.Nat.{◌-◌, ◌≤◌}
-use mathlib.Core.Path.{◌≡◌, refl}
-use native.Mathlib.Omega.{arith}
-use borrow.Author.Rules.{rules}
+use mathlib.Core.Path.{◌≡◌}
 use Rattle.text.specs.Text.{register_lines}
 use Rattle.text.specs.Code.{appended}
-use Rattle.text.proofs.Texts.{added_line}
 use Rattle.text.proofs.lines.say_registers.Given as goal
 
 abbrev pub invariant-loop-i : goal.invariant-loop-i

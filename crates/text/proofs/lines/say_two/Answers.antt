@@ -1,5 +1,4 @@
 use Rattle.text.proofs.Texts.{added_append}
-use borrow.Author.Rules.{rules}
 use Rattle.text.proofs.lines.say_two.Goals as goal
 
 pub returns : goal.returns

@@ -1,5 +1,4 @@
 use Rattle.waiting.specs.Waiting.{block}
-use borrow.Author.Rules.{rules}
 use Rattle.waiting.proofs.Waiting.block_of.Goals as goal
 
 pub returns : goal.returns

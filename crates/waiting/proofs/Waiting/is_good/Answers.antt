@@ -1,5 +1,4 @@
 use Rattle.waiting.specs.Waiting.{good_waiting}
-use borrow.Author.Rules.{rules}
 use Rattle.waiting.proofs.Waiting.is_good.Goals as goal
 
 pub returns : goal.returns
