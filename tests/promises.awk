@@ -119,27 +119,26 @@ function is_public(name,    place) {
 }
 
 # The shape of a function's contract: A and B as docs/PROMISES.md says, C for any other.
-function shape(name,    head, at, contract, result, left, right, count, lent, maker) {
+function shape(name,    head, at, contract, left, right, count, lent, maker) {
     head = heads[name]
-    at = index(head, "ensures { λ ")
-    if (!at || head ~ /requires \{/ || is_lent_inside(name)) return "C"
-    contract = substr(head, at + length("ensures { λ "))
+    at = index(head, "ensures { ")
+    if (!at || gsub(/ensures/, "&", head) > 1 || head ~ /requires/ || is_lent_inside(name)) return "C"
+    contract = substr(head, at + length("ensures { "))
     head = substr(head, 1, at - 1)
-    result = word_of(contract)
-    contract = substr(contract, index(contract, "⌜ ") + length("⌜ "))
+    if (!sub(/ \} *\{$/, "", contract)) return "C"
     at = index(contract, " ≡ ")
     left = substr(contract, 1, at - 1)
     right = substr(contract, at + length(" ≡ "))
-    if (!at || right ~ /\.exit|⌜|×|→|⊎|∧|∨|≡/ || right ~ ("(^|[ (])" result "[ )]")) return "C"
+    if (!at || right ~ /\.new|×|→|⊎|∧|∨|≡/ || right ~ /(^|[^A-Za-z0-9_.])result([^A-Za-z0-9_]|$)/) return "C"
     for (count = 0; match(head, /[a-z_]+: &('[a-z]+ )?mut /); count++) {
-        lent = lent " (now (" word_of(substr(head, RSTART)) " .exit))"
+        lent = lent " " word_of(substr(head, RSTART)) ".new"
         head = substr(head, RSTART + RLENGTH)
     }
-    if (!count) return left == result ? "A" : "C"
-    if (head !~ / -> /) return count == 1 && " (" left ")" == lent ? "B" : "C"
+    if (!count) return left == "result" ? "A" : "C"
+    if (head !~ / -> /) return count == 1 && " " left == lent ? "B" : "C"
     maker = left
     sub(/ .*/, "", maker)
-    return maker in makers && left == maker " " result lent ? "B" : "C"
+    return maker in makers && left == maker " result" lent ? "B" : "C"
 }
 
 # May it change what a reference inside an argument lends?
