@@ -89,8 +89,8 @@ function broken(text, indent, width) {
 
 # the words of a text that may be names; a field (.name) is none
 function words_in(text, each) {
-    gsub(/[^A-Za-z0-9_.-]/, " ", text)
-    gsub(/ \.[^ ]*/, " ", text)
+    gsub(/\.[A-Za-z0-9_]+/, " ", text)
+    gsub(/[^A-Za-z0-9_]/, " ", text)
     return split(text, each, " ")
 }
 
@@ -101,16 +101,23 @@ function between(line) {
     return line
 }
 
-# `use Rattle·machine·specs.specs.Machine.{PC, held}`: in this file the names are those of machine/Machine
+# `use Rattle.machine.specs.Machine.{PC, held}`: in this file the names are those of machine/Machine
 function import(line, into,    crate, file, count, name, i) {
     crate = line
-    sub(/^.*Rattle·/, "", crate)
+    sub(/^.*Rattle\./, "", crate)
     sub(/[^a-z_].*/, "", crate)
     file = line
-    sub(/^.*specs\./, "", file)
+    sub(/^.*\.specs\./, "", file)
     sub(/\..*/, "", file)
     count = split(between(line), name, ", ")
     for (i = 1; i <= count; i++) meaning[into, name[i]] = crate "/" file
+}
+
+# the words of the library that the definitions use, each operator without the signs for where its arguments go
+function note_words(names,    count, name, i) {
+    gsub(/◌/, "", names)
+    count = split(names, name, ", ")
+    for (i = 1; i <= count; i++) library[name[i]] = key
 }
 
 FNR == 1 && part != "order" {
@@ -134,7 +141,8 @@ part == "code" && FNR == 1 {
 part == "code" && /^pub mod / {
     opened[module "::" substr($3, 1, length($3) - 1)]
 }
-part == "code" && /^ghost use Rattle·.*specs\.[A-Z]/ { import($0, FILENAME) }
+part == "code" && /^ghost use Rattle\.[a-z_]+\.specs\.[A-Z]/ { import($0, FILENAME) }
+part == "code" && /^#\[/ { next }
 part == "code" && /^\/\/ / {
     note = (note == "" ? "" : note " ") substr($0, 4)
     next
@@ -176,7 +184,8 @@ function take_contract(contract,    name, count, word, i, own, cited) {
     contracts[name] = contract
     if (contract ~ /^pub /) module_of[name] = module
     take_arguments(contract, own)
-    if (!sub(/^.*ensures \{ /, "", contract)) return
+    if (!index(contract, " ensures ")) return
+    contract = substr(contract, index(contract, " ensures "))
     count = words_in(contract, word)
     for (i = 1; i <= count; i++)
         if ((FILENAME, word[i]) in meaning && !(word[i] in own)) {
@@ -201,8 +210,9 @@ part == "specs" && FNR == 1 { comment = name = "" }
 part == "specs" && /^use / {
     if (comment != "") head_of[key] = comment
     comment = ""
-    if (/Rattle·.*specs\.declared\./ && !/the-variants/) spoken[key] = spoken[key] " " between($0)
-    if (/Rattle·.*specs\.[A-Z]/) import($0, key)
+    if (/Rattle\.[a-z_]+\.specs\.declared\./ && !/TheVariants/) spoken[key] = spoken[key] " " between($0)
+    if (/Rattle\.[a-z_]+\.specs\.[A-Z]/) import($0, key)
+    if (/^use (Rattle\.std|mathlib)\./) note_words(between($0))
 }
 part == "specs" && /^(use |pub mod |infix)/ { next }
 part == "specs" { files[key] }
@@ -238,7 +248,7 @@ part == "specs" {
 
 # ---- the proofs: only what they state
 
-part == "proofs" && /^pub [a-z0-9-]+ : / {
+part == "proofs" && /^pub [a-z0-9_]+ : / {
     theorem = $2
     statement_of[key, theorem] = substr($0, 5 + length(theorem) + 3)
     words_in(statement_of[key, theorem], word)
@@ -305,7 +315,7 @@ function beside(left, right, count,    i, one, short, was_short, result) {
 }
 
 function is_plain(argument, arguments,    i) {
-    for (i = 2; i <= arguments; i++) if (argument[i] !~ /^[A-Za-z][A-Za-z0-9-]*$/) return 0
+    for (i = 2; i <= arguments; i++) if (argument[i] !~ /^[A-Za-z][A-Za-z0-9_]*$/) return 0
     return 1
 }
 
@@ -431,7 +441,7 @@ function cited_by(id,    note, key, name, crate, count, piece, i) {
     if (text_of[id] ~ / : (.* → )?Type 0/) {
         count = split(proved[crate, name], piece, " ")
         for (i = 1; i < count; i += 2)
-            if (statement_of[piece[i], piece[i + 1]] ~ ("^" name "( [a-z]+)?$")) {
+            if (statement_of[piece[i], piece[i + 1]] ~ ("^" name "( [a-z_]+)?$")) {
                 note = note ", theorem " crate "::" piece[i + 1]
                 if (statement_of[piece[i], piece[i + 1]] != name) note = note " : " statement_of[piece[i], piece[i + 1]]
             }
@@ -469,21 +479,17 @@ function with_notes_after(text,    count, line, i, note, result) {
 }
 
 # a function's head, and what it promises of its result
-function put_promise(name,    head, at, contract, result) {
+function put_promise(name,    head, at, contract) {
     head = contracts[name]
-    at = index(head, " ensures { λ ")
-    contract = substr(head, at + length(" ensures { λ "))
+    at = index(head, " ensures { ")
+    contract = substr(head, at + length(" ensures { "))
     head = substr(head, 1, at - 1)
     sub(/^.*fn [a-z_]*/, "", head)
     gsub(/\( /, "(", head)
     gsub(/, \)/, ")", head)
-    result = contract
-    sub(/\..*/, "", result)
-    contract = substr(contract, index(contract, "⌜ ") + length("⌜ "))
-    contract = substr(contract, 1, index(contract, " ⌝") - 1)
-    if (!at || contracts[name] ~ /requires \{/) amiss(name ": no promise for every input")
+    if (!at || !sub(/ \} \{$/, "", contract) || contract ~ / ensures / || contracts[name] ~ / requires /) amiss(name ": no promise for every input")
     if (was_promise != book) gap()
-    put(filled("Promise of " name head ", for its result " result ":", ", ", "    ", WIDTH))
+    put(filled("Promise of " name head ":", ", ", "    ", WIDTH))
     at = index(contract, " ≡ ")
     if (columns(contract) > WIDTH - 4)
         contract = substr(contract, 1, at - 1) "\n  " broken(substr(contract, at + 1), "    ", WIDTH - 6)
@@ -621,6 +627,16 @@ function check_all(    key, k, count, word, id) {
         check_names(id)
         check_alone(id)
     }
+    check_notation()
+}
+
+# The text before the first chapter says how each word of the library is to be read.
+function check_notation(    i, count, word, k, told) {
+    for (i = 1; entry[i] ~ /^>/; i++) {
+        count = split(entry[i], word, /[ ,;:]+|\.( |$)|[()]/)
+        for (k = 1; k <= count; k++) told[word[k]]
+    }
+    for (k in library) if (!(k in told)) amiss(library[k] ": uses " k ", which the notation of docs/book.order does not tell")
 }
 
 # A name has one definition.
