@@ -113,10 +113,10 @@ function import(line, into,    crate, file, count, name, i) {
     for (i = 1; i <= count; i++) meaning[into, name[i]] = crate "/" file
 }
 
-# the words of the library that the definitions use, each operator without the signs for where its arguments go
+# the words of the library that the definitions use; of an operator without the signs for where its arguments go
 function note_words(names,    count, name, i) {
-    gsub(/◌/, "", names)
-    count = split(names, name, ", ")
+    gsub(/◌|,/, " ", names)
+    count = split(names, name, " ")
     for (i = 1; i <= count; i++) library[name[i]] = key
 }
 
