@@ -1,4 +1,4 @@
--- What the records of kinds 0D to 10 do: 5 by the address, 6 by every byte, 7 by the values; a store or a write_back only when none
+-- What the records of kinds 0D to 10 do: 5 by the address, 6 by every byte, 7 by the values; a store or a write-back only when none
 -- of them applies. m is the machine before, from which all is read, next the machine at the next record.
 use Rattle.std.specs.Prelude.{ℕ, zero, suc, false, List, length, ◌==◌}
 use Rattle.std.specs.Bool.{if◌then◌else◌}

@@ -90,7 +90,7 @@ dual_access_allowed d =
     && (not (eqb d.rn 15) || loads_dual d.op && is_offset d.mode)
     && (is_offset d.mode || not (eqb d.rn d.rt) && not (eqb d.rn d.rt2))
 
--- "list not empty, without 13; stores without 15; loads without 14 and 15 together; no Rn in the list with write_back; Rn not 15"
+-- "list not empty, without 13; stores without 15; loads without 14 and 15 together; no Rn in the list with write-back; Rn not 15"
 abbrev pub multiple_access_allowed : MultipleAccessFields → Bool
 multiple_access_allowed d =
     not (eqb d.list 0) && not (member d.list 13) && not (member d.list 15 && not (loads_many d.op))

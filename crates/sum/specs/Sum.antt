@@ -1,4 +1,4 @@
--- "Arithmetic sets all four; C after a subtraction is 1 when nothing was borrowed." The sum is the manual's add_with_carry.
+-- "Arithmetic sets all four; C after a subtraction is 1 when nothing was borrowed." The sum is the manual's AddWithCarry.
 use Rattle.std.specs.Prelude.{ℕ, ◌+◌, ◌%◌, ◌^◌, Bool, not, ◌&&◌, leb, ℤ, pos, neg_ℤ, ◌+ℤ◌, ◌-ℤ◌}
 use Rattle.std.specs.Int.Signed.{le_z, lt_z}
 use Rattle.word.specs.Word.{one_if, signed, wrapped}
