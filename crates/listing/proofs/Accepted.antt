@@ -1,7 +1,7 @@
 -- What the check says of every point of an accepted listing.
-use Prim.Native.Nat.{ℕ, zero, suc, ◌+◌, ◌-◌, ◌/◌, ◌%◌, ◌^◌, ◌≤◌, ◌<◌}
-use mathlib.Core.Path.{◌≡◌, refl, sym, ap, ◌∙◌}
-use mathlib.Core.Bool.{Bool, true, false, false≢true, not, ◌&&◌, ◌||◌}
+use Prim.Native.Nat.{ℕ, zero, suc, ◌+◌, ◌/◌, ◌%◌, ◌^◌, ◌≤◌, ◌<◌}
+use mathlib.Core.Path.{◌≡◌, refl, ap, ◌∙◌}
+use mathlib.Core.Bool.{Bool, true, false, false≢true, not, ◌||◌}
 use mathlib.Core.Logic.{◌⊎◌, inl, inr}
 use mathlib.Core.List.Memᴰ
 use mathlib.Core.List.{List, [], ◌∷◌, Memᴰ}
@@ -12,7 +12,7 @@ use lib.IntN.{ℤ}
 use lib.ListN.{length}
 use Rattle.std.specs.Bool.{if◌then◌else◌}
 use Rattle.word.specs.Word.{bit}
-use Rattle.word.proofs.Cases.{cases, yes_or_no, both_true, either_true, neither}
+use Rattle.word.proofs.Cases.{cases, both_true, either_true, neither}
 use Rattle.waiting.specs.Waiting.{nothing, waiting_count}
 use Rattle.record.specs.declared.Record.{Record}
 use Rattle.flow.specs.Flow.{way, target}
@@ -22,7 +22,6 @@ use Rattle.layout.specs.Layout.{Met, Onward, AtEnd, Refusal, free, meets, layout
 use Rattle.layout.proofs.Points.{refused_number, rises}
 use Rattle.layout.proofs.Members.{On, on_within, next_on}
 use Rattle.layout.proofs.Blocks.{nothing_waits}
-use Rattle.listing.specs.declared.Checked.{Checked}
 use Rattle.landing.specs.Landing.{lands_here, lands_at, lands, landing}
 use Rattle.listing.specs.Check.{report, lowest, end_fault, fault, astray, branch_fault, first_pass, second_pass, checked}
 

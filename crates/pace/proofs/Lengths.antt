@@ -2,9 +2,7 @@
 use Rattle.std.proofs.Common.{◌≡◌, ℕ, ◌+◌, ◌≤◌, Bool, true, false, ◌&&◌, eqb, List, length, refl, arith, eqb-true}
 use Rattle.std.specs.Bool.{if◌then◌else◌}
 use Rattle.little.specs.Little.{byte}
-use Rattle.waiting.specs.Waiting.{block}
 use Rattle.record.specs.declared.Record.{Record}
-use Rattle.flow.specs.Flow.{after}
 use Rattle.kinds.specs.Kinds.{lengths, listing_length, record_of}
 use Rattle.fields.specs.Fields.{well_formed}
 use Rattle.reading.specs.declared.Read.{Read}

@@ -1,5 +1,5 @@
 -- What waits after a record that is passed over, and the records that do nothing but go on.
-use Rattle.std.proofs.Common.{◌≡◌, ℕ, zero, ◌≤◌, Bool, true, false, eqb, leb, List, [], ◌∷◌, sym, refl, ◌∙◌, true≢false, arith, eq-eqb, eqb-true, leb-false}
+use Rattle.std.proofs.Common.{◌≡◌, ℕ, ◌≤◌, Bool, true, false, eqb, leb, List, [], ◌∷◌, sym, refl, ◌∙◌, true≢false, arith, eq-eqb, eqb-true, leb-false}
 use Rattle.std.specs.Bool.{if◌then◌else◌}
 use Rattle.little.specs.Little.{byte}
 use Rattle.waiting.specs.declared.Waiting.{Waiting}

@@ -1,7 +1,7 @@
 -- One case principle over the step of a record: it is refused with 5, 6 or 7, or done with a machine that is made of the one at the
 -- next record by writes of the record's registers.
 use Prim.Native.Nat.{ℕ, ◌%◌, ◌≤◌}
-use mathlib.Core.Bool.{Bool, true, false, not, ◌&&◌}
+use mathlib.Core.Bool.{Bool, true, false, not}
 use mathlib.Core.List.{List}
 use mathlib.Core.Path.{◌≡◌, refl, ◌∙◌}
 use native.Mathlib.Omega.{arith}

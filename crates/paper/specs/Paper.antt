@@ -1,11 +1,11 @@
 -- "Worked on paper": P1 to P10 of paper 01 as one table, and the statement that each row is what the step's definition gives.
-use Rattle.std.specs.Prelude.{ℕ, zero, suc, Bool, true, false, List, [], ◌∷◌, ◌≡◌}
+use Rattle.std.specs.Prelude.{ℕ, Bool, true, false, List, [], ◌∷◌, ◌≡◌}
 use Rattle.flags.specs.declared.Flags.{Flags}
 use Rattle.flags.specs.Flags.{clear}
 use Rattle.waiting.specs.Waiting.{nothing}
 use Rattle.setup.specs.Setup.{at_base}
 use Rattle.machine.specs.declared.Machine.{Machine}
-use Rattle.machine.specs.Machine.{done, Outcome, keeping}
+use Rattle.machine.specs.Machine.{done, keeping}
 use Rattle.machine.specs.Step.{stepped}
 
 -- a record, the machine before it and the machine after it

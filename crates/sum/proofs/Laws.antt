@@ -44,11 +44,11 @@ large_in_range x y i f f' g g' h =
     (λ l. rw (lt-leb (2 ^ 31) v l, lt-leb (d - suc i) (2 ^ 31 - 1) (omega arith))))
 
 -- overflow as the code tests it, by bit 31 of the two numbers and of their sum
-pub overflow-by-signs : (x y i : ℕ) → x < 2 ^ 32 → y < 2 ^ 32 → i ≤ 1
+pub overflow_by_signs : (x y i : ℕ) → x < 2 ^ 32 → y < 2 ^ 32 → i ≤ 1
     → let minus : ℕ → Bool = λ n. eqb (n / 2 ^ 31) 1 in
     (beq (minus x) (minus y) && not (beq (minus x) (minus ((x + y + i) % 2 ^ 32))))
     ≡ not (in_range (signed x +ℤ signed y +ℤ pos i))
-overflow-by-signs x y i f g h =
+overflow_by_signs x y i f g h =
     let sum = (x + y + i) % 2 ^ 32 in
     rw (holds_once (2 ^ 31) x f, holds_once (2 ^ 31) y g, holds_once (2 ^ 31) sum (omega arith))
     (cases (le_or_gt (2 ^ 31) x)

@@ -1,4 +1,4 @@
-use Rattle.std.proofs.Common.{sym, ◌∙◌, rules}
+use Rattle.std.proofs.Common.{sym, ◌∙◌}
 use Rattle.lent.specs.Lent.{assembled, put_in}
 use Rattle.access_arms.proofs.access_one.Goals as goal
 

@@ -1,4 +1,4 @@
-use Rattle.std.proofs.Common.{◌≡◌, ◌<◌, to_z-of_z, w16, rules}
+use Rattle.std.proofs.Common.{◌≡◌, ◌<◌, to_z-of_z, w16}
 use Rattle.address.specs.Address.{moved}
 use Rattle.record.specs.declared.Record.TheVariants.{DualAccess}
 use Rattle.kinds.specs.Kinds.{record_of, listing_length}

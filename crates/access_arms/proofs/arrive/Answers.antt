@@ -1,4 +1,4 @@
-use Rattle.std.proofs.Common.{refl, ◌∙◌, rules}
+use Rattle.std.proofs.Common.{refl, ◌∙◌}
 use Rattle.lent.proofs.Laws.{refused_parts, settled_fine, settled_back}
 use Rattle.lent.specs.Lent.{put_in}
 use Rattle.access_arms.proofs.Laws.{lost, stays}

@@ -1,4 +1,3 @@
-use Rattle.std.proofs.Common.{rules}
 use Rattle.machine.specs.Access.{access_done}
 use Rattle.access_arms.proofs.Laws.{granted, declined}
 use Rattle.access_arms.proofs.do_access.Goals as goal

@@ -1,4 +1,4 @@
-use Rattle.std.proofs.Common.{◌≡◌, ◌<◌, rules}
+use Rattle.std.proofs.Common.{◌≡◌, ◌<◌}
 use Rattle.record.specs.declared.Record.TheVariants.{IndexedAccess}
 use Rattle.kinds.specs.Kinds.{record_of, listing_length}
 use Rattle.machine.specs.Access.{indexed_access_effect}

@@ -1,4 +1,4 @@
-use Rattle.std.proofs.Common.{ap, rules}
+use Rattle.std.proofs.Common.{ap}
 use Rattle.machine.specs.Access.{access_made}
 use Rattle.machine.specs.Machine.{held, keeping}
 use Rattle.machine.specs.declared.Stepped.{Stepped}

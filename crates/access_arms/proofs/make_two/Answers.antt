@@ -1,4 +1,4 @@
-use Rattle.std.proofs.Common.{ap, rules}
+use Rattle.std.proofs.Common.{ap}
 use Rattle.machine.specs.Access.{based, dual_made}
 use Rattle.machine.specs.Machine.{held, keeping, written}
 use Rattle.machine.specs.declared.Stepped.{Stepped}

@@ -1,4 +1,4 @@
-use Rattle.std.proofs.Common.{◌≡◌, ◌<◌, to_z-of_z, w16, rules}
+use Rattle.std.proofs.Common.{◌≡◌, ◌<◌, to_z-of_z, w16}
 use Rattle.record.specs.declared.Record.TheVariants.{Access}
 use Rattle.kinds.specs.Kinds.{record_of, listing_length}
 use Rattle.machine.specs.Access.{access_effect, based}

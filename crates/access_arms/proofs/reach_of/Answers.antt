@@ -1,4 +1,3 @@
-use Rattle.std.proofs.Common.{rules}
 use Rattle.access_arms.proofs.Formed.{begins}
 use Rattle.access_arms.proofs.reach_of.Goals as goal
 

@@ -1,4 +1,4 @@
-use Rattle.std.proofs.Common.{◌≡◌, refl, rules}
+use Rattle.std.proofs.Common.{◌≡◌, refl}
 use Rattle.lent.proofs.Laws.{stood, fell}
 use Rattle.lent.specs.Lent.{put_in}
 use Rattle.access_arms.specs.Reaching.{back_in}

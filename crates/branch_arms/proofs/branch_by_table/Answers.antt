@@ -1,4 +1,4 @@
-use Rattle.std.proofs.Common.{◌≡◌, eqb, get_or, rules}
+use Rattle.std.proofs.Common.{◌≡◌, eqb, get_or}
 use Rattle.std.specs.Bool.{if◌then◌else◌}
 use Rattle.record.specs.declared.Record.TheVariants.{TableBranch}
 use Rattle.kinds.specs.Kinds.{record_of}

@@ -1,4 +1,4 @@
-use Rattle.std.proofs.Common.{◌≡◌, to_z-of_z, w32, rules}
+use Rattle.std.proofs.Common.{◌≡◌, to_z-of_z, w32}
 use Rattle.record.specs.declared.Record.TheVariants.{Branch}
 use Rattle.kinds.specs.Kinds.{record_of}
 use Rattle.branch_arms.proofs.Formed.{branch_long, branch_is}

@@ -1,4 +1,4 @@
-use Rattle.std.proofs.Common.{◌≡◌, ℕ, List, ap, rules}
+use Rattle.std.proofs.Common.{◌≡◌, ℕ, List, ap}
 use Rattle.record.specs.declared.Record.TheVariants.{RegisterBranch}
 use Rattle.kinds.specs.Kinds.{record_of}
 use Rattle.flags.specs.declared.Flags.{Flags}

@@ -1,5 +1,4 @@
 use Rattle.machine.specs.Branch.{branches}
-use Rattle.std.proofs.Common.{rules}
 use Rattle.branch_arms.proofs.branches_of.Goals as goal
 
 pub returns-in-Cbz : goal.returns-in-Cbz

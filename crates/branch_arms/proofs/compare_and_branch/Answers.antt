@@ -1,4 +1,4 @@
-use Rattle.std.proofs.Common.{◌≡◌, get_or, sym, ap, ◌∙◌, rules}
+use Rattle.std.proofs.Common.{◌≡◌, get_or, sym, ap, ◌∙◌}
 use Rattle.record.specs.declared.Record.TheVariants.{CompareBranch}
 use Rattle.kinds.specs.Kinds.{record_of}
 use Rattle.machine.specs.Branch.{branches}

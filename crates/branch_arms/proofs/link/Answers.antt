@@ -1,4 +1,3 @@
-use Rattle.std.proofs.Common.{rules}
 use Rattle.branch_arms.proofs.link.Goals as goal
 
 pub returns-then-links : goal.returns-then-links

@@ -1,4 +1,4 @@
-use Rattle.std.proofs.Common.{◌≡◌, true, false, sym, ◌∙◌, rules}
+use Rattle.std.proofs.Common.{◌≡◌, true, false, sym, ◌∙◌}
 use Rattle.lent.specs.Lent.{steady_in, put_in}
 use Rattle.branch_arms.specs.Link.{link_in}
 use Rattle.branch_arms.proofs.Laws.{link_told}

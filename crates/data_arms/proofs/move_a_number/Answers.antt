@@ -1,7 +1,6 @@
 use Prim.Native.Nat.{◌<◌}
 use mathlib.Core.Path.{◌≡◌, ap}
 use native.Mathlib.Omega.{arith}
-use borrow.Author.Rules.{rules}
 use Rattle.record.specs.declared.Record.TheVariants.{MoveNumber}
 use Rattle.kinds.specs.Kinds.{listing_length, record_of}
 use Rattle.machine.specs.declared.Stepped.{Stepped}

@@ -1,7 +1,6 @@
 use Prim.Native.Nat.{◌<◌}
 use mathlib.Core.Path.{◌≡◌, refl}
 use native.Mathlib.Omega.{arith}
-use borrow.Author.Rules.{rules}
 use Rattle.record.specs.declared.Record.TheVariants.{LongMultiply}
 use Rattle.operate.specs.Operate.{multiplied_long}
 use Rattle.kinds.specs.Kinds.{listing_length, record_of}

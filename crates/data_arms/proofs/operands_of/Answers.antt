@@ -1,4 +1,3 @@
-use borrow.Author.Rules.{rules}
 use Rattle.data_arms.proofs.Laws.{some_long}
 use Rattle.data_arms.proofs.operands_of.Goals as goal
 

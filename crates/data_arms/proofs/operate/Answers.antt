@@ -1,4 +1,3 @@
-use borrow.Author.Rules.{rules}
 use Rattle.data_arms.proofs.Laws.{operate_does, obeys_fine, obeys_back}
 use Rattle.data_arms.proofs.operate.Goals as goal
 

@@ -1,7 +1,6 @@
 use Prim.Native.Nat.{◌<◌}
 use mathlib.Core.Path.{◌≡◌}
 use native.Mathlib.Omega.{arith}
-use borrow.Author.Rules.{rules}
 use Rattle.record.specs.declared.Record.TheVariants.{Saturate}
 use Rattle.operate.specs.Operate.{shifter, saturated}
 use Rattle.kinds.specs.Kinds.{listing_length, record_of}

@@ -1,7 +1,6 @@
 use mathlib.Core.Path.{◌≡◌}
 use mathlib.Core.Bool.{true, false}
 use lib.Dec.{ltb}
-use borrow.Author.Rules.{rules}
 use Rattle.record.specs.Op.{data_code}
 use Rattle.data_arms.proofs.settle_data.Goals as goal
 

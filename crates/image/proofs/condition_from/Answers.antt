@@ -1,4 +1,3 @@
-use borrow.Author.Rules.{rules}
 use Rattle.image.proofs.condition_from.Goals as goal
 
 pub returns-then-within : goal.returns-then-within

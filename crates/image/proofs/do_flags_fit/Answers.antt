@@ -1,5 +1,4 @@
 use Rattle.image.specs.Image.{flags_fit}
-use borrow.Author.Rules.{rules}
 use Rattle.image.proofs.do_flags_fit.Goals as goal
 
 pub returns : goal.returns

@@ -1,5 +1,4 @@
 use Rattle.image.specs.Image.{waiting_fits}
-use borrow.Author.Rules.{rules}
 use Rattle.image.proofs.does_waiting_fit.Goals as goal
 
 pub returns : goal.returns

@@ -1,5 +1,4 @@
 use Rattle.image.specs.Image.{is_image}
-use borrow.Author.Rules.{rules}
 use Rattle.image.proofs.is_image_of.Goals as goal
 
 pub returns : goal.returns

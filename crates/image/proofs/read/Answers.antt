@@ -1,5 +1,4 @@
 use Rattle.image.specs.Image.{machine_of}
-use borrow.Author.Rules.{rules}
 use Rattle.image.proofs.read.Goals as goal
 
 pub returns : goal.returns

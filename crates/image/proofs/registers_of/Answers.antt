@@ -1,7 +1,5 @@
-use Prim.Native.Nat.{◌-◌, ◌≤◌}
 use mathlib.Core.Path.{◌≡◌, refl}
 use native.Mathlib.Omega.{arith}
-use borrow.Author.Rules.{rules}
 use Rattle.image.specs.Image.{words}
 use Rattle.image.proofs.Laws.{words_next}
 use Rattle.image.proofs.registers_of.Goals as goal
@@ -17,5 +15,4 @@ loop-i-preserved c =
     (omega arith, rw (c.word_at.ensures, l.invariant.1) (words_next l.i image))
 
 pub returns : goal.returns
-
 returns c = let l = c.loop-i in let e : 16 ≡ l.i = omega arith in rw e l.invariant.1

@@ -1,9 +1,6 @@
 use Prim.Native.Nat.{◌-◌, ◌≤◌}
-use mathlib.Core.Path.{◌≡◌, refl}
-use native.Mathlib.Omega.{arith}
-use borrow.Author.Rules.{rules}
+use mathlib.Core.Path.{◌≡◌}
 use Rattle.image.specs.Image.{words}
-use Rattle.image.proofs.Laws.{words_next}
 use Rattle.image.proofs.registers_of.Given as goal
 
 abbrev pub invariant-loop-i : goal.invariant-loop-i

@@ -1,5 +1,4 @@
 use Rattle.image.specs.Image.{waiting_of}
-use borrow.Author.Rules.{rules}
 use Rattle.image.proofs.waiting_from.Goals as goal
 
 pub returns : goal.returns

@@ -1,5 +1,4 @@
 use Rattle.image.specs.Image.{image_of}
-use borrow.Author.Rules.{rules}
 use Rattle.image.proofs.write.Goals as goal
 
 pub returns : goal.returns

@@ -1,5 +1,4 @@
 use Rattle.image.specs.Image.{with_flag_bytes}
-use borrow.Author.Rules.{rules}
 use Rattle.image.proofs.write_flags.Goals as goal
 
 pub returns : goal.returns

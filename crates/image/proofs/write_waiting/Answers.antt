@@ -1,7 +1,6 @@
 use Rattle.image.specs.Image.{with_waiting_bytes}
 use native.Mathlib.Omega.{arith}
 use Rattle.image.proofs.Laws.{count_le}
-use borrow.Author.Rules.{rules}
 use Rattle.image.proofs.write_waiting.Goals as goal
 
 pub overflow_cast-count : goal.overflow_cast-count

@@ -1,9 +1,6 @@
-use Prim.Native.Nat.{◌-◌}
 use mathlib.Core.Path.{refl}
 use native.Mathlib.Omega.{arith}
-use borrow.Author.Rules.{rules}
-use Rattle.landing.specs.Code.{by_halves}
-use Rattle.landing.proofs.Halves.{Halving, halved, halved_up, halved_down}
+use Rattle.landing.proofs.Halves.{halved, halved_up, halved_down}
 use Rattle.landing.proofs.entries_to.Goals as goal
 
 pub loop-low-init : goal.loop-low-init

@@ -1,4 +1,3 @@
-use borrow.Author.Rules.{rules}
 use Rattle.landing.specs.Code.{lands_seen}
 use Rattle.landing.proofs.is_landing.Goals as goal
 

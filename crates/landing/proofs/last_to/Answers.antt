@@ -1,7 +1,6 @@
 use Prim.Native.Nat.{◌-◌, ◌≤◌, min}
 use mathlib.Core.Path.{◌≡◌, sym}
 use native.Mathlib.Omega.{arith}
-use borrow.Author.Rules.{rules}
 use lib.ListN.{length}
 use Rattle.landing.specs.Code.{last_to}
 use Rattle.landing.proofs.Halves.{halves_within, last_none, last_before}

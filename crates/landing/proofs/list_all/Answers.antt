@@ -5,10 +5,10 @@ use borrow.Author.Rules.{rules}
 use borrow.Author.Tests.{lt-ltb, le-ltb}
 use lib.ListN.{length}
 use Rattle.layout.specs.Layout.{walk, layout}
-use Rattle.layout.proofs.Members.{On, start_on, next_on, on_within}
+use Rattle.layout.proofs.Members.{start_on, next_on, on_within}
 use Rattle.layout.proofs.Turns.{passed, ends_last, stops_last}
 use Rattle.landing.specs.Landing.{lands_here}
-use Rattle.landing.specs.Code.{table, entered, all_entered, tabled}
+use Rattle.landing.specs.Code.{table, tabled}
 use Rattle.landing.proofs.Tabling.{seen_lands, entered_on, entered_last, entered_none}
 use Rattle.landing.proofs.list_all.Goals as goal
 use Rattle.landing.proofs.list_all.Goals.{After-enter-count, In-Ends, In-Goes, In-Stops}

@@ -1,5 +1,4 @@
 use Rattle.flags.specs.Flags.{all_four}
-use Rattle.std.proofs.Common.{rules}
 use Rattle.lent.proofs.mark.Goals as goal
 
 pub returns-then-s : goal.returns-then-s

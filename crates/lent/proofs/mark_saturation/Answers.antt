@@ -1,4 +1,4 @@
-use Rattle.std.proofs.Common.{refl, rules}
+use Rattle.std.proofs.Common.{refl}
 use Rattle.flags.specs.Flags.{saturating}
 use Rattle.lent.proofs.mark_saturation.Goals as goal
 

@@ -1,4 +1,3 @@
-use Rattle.std.proofs.Common.{rules}
 use Rattle.flags.specs.Flags.{signs}
 use Rattle.lent.proofs.mark_signs.Goals as goal
 

@@ -1,5 +1,5 @@
 use Rattle.machine.specs.Machine.{kept}
-use Rattle.std.proofs.Common.{rules, ne_eqb}
+use Rattle.std.proofs.Common.{ne_eqb}
 use Rattle.lent.proofs.put.Goals as goal
 
 pub returns-then-n-eq-PC : goal.returns-then-n-eq-PC

@@ -1,4 +1,3 @@
-use Rattle.std.proofs.Common.{rules}
 use Rattle.lent.specs.Lent.{put_in}
 use Rattle.lent.proofs.Laws.{written_parts, settled_fine, settled_back}
 use Rattle.lent.proofs.put_one.Goals as goal

@@ -1,4 +1,4 @@
-use Rattle.std.proofs.Common.{◌≡◌, rules}
+use Rattle.std.proofs.Common.{◌≡◌}
 use Rattle.lent.specs.Lent.{put_in}
 use Rattle.lent.proofs.Laws.{stood, fell, back_two}
 use Rattle.lent.proofs.settle.Goals as goal

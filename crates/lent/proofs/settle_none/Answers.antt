@@ -1,4 +1,3 @@
-use Rattle.std.proofs.Common.{rules}
 use Rattle.lent.proofs.Laws.{stood, fell, back_one}
 use Rattle.lent.proofs.settle_none.Goals as goal
 

@@ -1,4 +1,4 @@
-use Rattle.std.proofs.Common.{◌≡◌, rules}
+use Rattle.std.proofs.Common.{◌≡◌}
 use Rattle.lent.specs.Lent.{put_in}
 use Rattle.lent.proofs.Laws.{stood, fell, back_three}
 use Rattle.lent.proofs.settle_two.Goals as goal

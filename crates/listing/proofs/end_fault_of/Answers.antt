@@ -1,6 +1,5 @@
 use Rattle.listing.specs.Check.{end_fault}
 use borrow.Author.Tests.{lt-ltb, le-ltb}
-use borrow.Author.Rules.{rules}
 use Rattle.listing.proofs.end_fault_of.Goals as goal
 
 pub returns-then-open : goal.returns-then-open

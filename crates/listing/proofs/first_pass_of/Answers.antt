@@ -1,11 +1,10 @@
-use mathlib.Core.Path.{◌≡◌, refl, sym, ◌∙◌}
+use mathlib.Core.Path.{refl, sym, ◌∙◌}
 use native.Mathlib.Omega.{arith}
-use borrow.Author.Rules.{rules}
-use Rattle.layout.proofs.Points.{Within, within_start, within_next}
+use Rattle.layout.proofs.Points.{within_start, within_next}
 use Rattle.layout.proofs.Turns.{passed, ended, stopped, ends_last, stops_last}
 use Rattle.listing.proofs.Passes.{pass_on, pass_last, pass_none}
-use Rattle.layout.specs.Layout.{meets, walk, layout}
-use Rattle.listing.specs.Check.{fault, lowest, first_pass}
+use Rattle.layout.specs.Layout.{layout}
+use Rattle.listing.specs.Check.{fault, first_pass}
 use Rattle.listing.proofs.first_pass_of.Goals as goal
 
 pub loop-left-init : goal.loop-left-init

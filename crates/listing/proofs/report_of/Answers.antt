@@ -1,4 +1,3 @@
-use borrow.Author.Rules.{rules}
 use Rattle.listing.proofs.report_of.Goals as goal
 
 pub returns-then-none : goal.returns-then-none

@@ -1,4 +1,3 @@
-use Rattle.std.proofs.Common.{rules}
 use Rattle.kinds.specs.Kinds.{form}
 use Rattle.pace.proofs.form_length_of.Goals as goal
 

@@ -1,4 +1,4 @@
-use Rattle.std.proofs.Common.{arith, rules, ne_eqb}
+use Rattle.std.proofs.Common.{arith, ne_eqb}
 use Rattle.little.specs.Little.{byte}
 use Rattle.flags.specs.Flags.{passes}
 use Rattle.pace.proofs.Table.{own_as}

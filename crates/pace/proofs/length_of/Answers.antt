@@ -1,4 +1,4 @@
-use Rattle.std.proofs.Common.{◌≡◌, true, false, ◌||◌, eqb, arith, rules}
+use Rattle.std.proofs.Common.{◌≡◌, true, false, ◌||◌, eqb, arith}
 use borrow.Author.Tests.{eqb-false}
 use Rattle.word.proofs.Cases.{neither}
 use Rattle.little.specs.Little.{byte}

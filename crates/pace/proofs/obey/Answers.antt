@@ -1,4 +1,4 @@
-use Rattle.std.proofs.Common.{sym, ◌∙◌, rules}
+use Rattle.std.proofs.Common.{sym, ◌∙◌}
 use Rattle.lent.specs.Lent.{flags_in}
 use Rattle.machine.specs.Machine.{held, written, with_waiting, ruling, condition_passes, advanced, skipped, onward, done}
 use Rattle.machine.specs.Step.{obeyed}

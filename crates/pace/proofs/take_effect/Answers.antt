@@ -1,4 +1,4 @@
-use Rattle.std.proofs.Common.{◌≡◌, true, false, ◌||◌, eqb, arith, rules, eqb-true}
+use Rattle.std.proofs.Common.{◌≡◌, true, false, ◌||◌, eqb, arith, eqb-true}
 use borrow.Author.Tests.{eqb-false}
 use Rattle.word.proofs.Cases.{cases, either_true, neither}
 use Rattle.little.specs.Little.{byte}

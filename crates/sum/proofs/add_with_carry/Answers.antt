@@ -4,7 +4,7 @@ use lib.Bits.{and_mask}
 use Rattle.word.specs.Word.{one_if}
 use Rattle.sum.specs.Sum.{add_with_carry}
 use Rattle.word.proofs.Numbers.{one_if_either, holds_once}
-use Rattle.sum.proofs.Laws.{overflow-by-signs}
+use Rattle.sum.proofs.Laws.{overflow_by_signs}
 use Rattle.sum.proofs.add_with_carry.Goals as goal
 
 pub overflow_cast-value : goal.overflow_cast-value
@@ -20,5 +20,5 @@ returns c =
     (λ i. record {
       value = sum % 2 ^ 32;
       carry = holds_once (2 ^ 32) sum (omega arith) i;
-      overflow = overflow-by-signs a.x a.y (one_if a.carry) (omega arith) (omega arith) (omega arith) i;
+      overflow = overflow_by_signs a.x a.y (one_if a.carry) (omega arith) (omega arith) (omega arith) i;
     })

@@ -1,4 +1,3 @@
-use Rattle.std.proofs.Common.{rules}
 use Rattle.access_arms.proofs.back.go_back.Goals as goal
 
 pub returns-then-plain : goal.returns-then-plain

@@ -1,4 +1,3 @@
-use Rattle.std.proofs.Common.{rules}
 use Rattle.access_arms.proofs.many.arrive_list.Goals as goal
 
 pub returns-then-leaves : goal.returns-then-leaves

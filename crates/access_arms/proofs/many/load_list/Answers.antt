@@ -1,6 +1,5 @@
-use Rattle.std.proofs.Common.{◌≡◌, ◌-◌, ◌≤◌, refl, arith, rules}
+use Rattle.std.proofs.Common.{◌≡◌, refl, arith}
 use Rattle.transfer.proofs.Laws.{slot_first, slot_next}
-use Rattle.transfer.specs.Transfer.{slot}
 use Rattle.access_arms.specs.Reaching.{loaded_in}
 use Rattle.access_arms.proofs.Laws.{loaded_next}
 use Rattle.register_list.specs.List.{member}

@@ -1,9 +1,6 @@
-use Rattle.std.proofs.Common.{◌≡◌, ◌-◌, ◌≤◌, refl, arith, rules}
-use Rattle.transfer.proofs.Laws.{slot_first, slot_next}
+use Rattle.std.proofs.Common.{◌≡◌, ◌-◌, ◌≤◌}
 use Rattle.transfer.specs.Transfer.{slot}
 use Rattle.access_arms.specs.Reaching.{loaded_in}
-use Rattle.access_arms.proofs.Laws.{loaded_next}
-use Rattle.register_list.specs.List.{member}
 use Rattle.access_arms.proofs.many.load_list.Given as goal
 
 abbrev pub invariant-loop-i : goal.invariant-loop-i

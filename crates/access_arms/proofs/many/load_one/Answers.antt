@@ -1,4 +1,3 @@
-use Rattle.std.proofs.Common.{rules}
 use Rattle.access_arms.proofs.many.load_one.Goals as goal
 
 pub returns-then-listed : goal.returns-then-listed

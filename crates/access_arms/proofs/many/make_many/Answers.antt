@@ -1,4 +1,4 @@
-use Rattle.std.proofs.Common.{refl, ap, rules}
+use Rattle.std.proofs.Common.{refl, ap}
 use Rattle.machine.specs.Access.{multiple_made}
 use Rattle.machine.specs.Machine.{keeping}
 use Rattle.machine.specs.declared.Stepped.{Stepped}

@@ -1,6 +1,5 @@
 use mathlib.Core.Path.{◌≡◌}
 use mathlib.Core.Bool.{not}
-use borrow.Author.Rules.{rules}
 use Rattle.landing.specs.Code.{table, is_listed}
 use Rattle.landing.proofs.Halves.{hits}
 use Rattle.listing.specs.Check.{astray}

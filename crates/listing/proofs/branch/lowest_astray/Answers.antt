@@ -1,11 +1,10 @@
 use mathlib.Core.Path.{◌≡◌, refl, ◌∙◌}
 use native.Mathlib.Omega.{arith}
-use borrow.Author.Rules.{rules}
 use Rattle.std.specs.Bool.{if◌then◌else◌}
-use Rattle.layout.proofs.Members.{On, start_on, next_on}
+use Rattle.layout.proofs.Members.{start_on, next_on}
 use Rattle.layout.proofs.Turns.{Passed, passed, ended, stopped, ends_last, stops_last}
-use Rattle.layout.specs.Layout.{meets, walk, layout}
-use Rattle.listing.specs.Check.{lowest, branch_fault, second_pass}
+use Rattle.layout.specs.Layout.{meets, layout}
+use Rattle.listing.specs.Check.{branch_fault, second_pass}
 use Rattle.listing.proofs.Passes.{pass_on, pass_here, pass_last, pass_none}
 use Rattle.listing.proofs.Accepted.{sound_low}
 use Rattle.listing.proofs.Branches.{branch_number}
