@@ -1,5 +1,5 @@
 -- What the code sees is what a machine faces, and a fresh run and a resume are what it does.
-use Prim.Native.Nat.{ℕ, ◌+◌, ◌-◌}
+use Prim.Native.Nat.{ℕ, ◌+◌}
 use mathlib.Core.Path.{◌≡◌, refl}
 use mathlib.Core.Bool.{Bool, true, false, not, ◌&&◌}
 use mathlib.Core.List.{List}
@@ -24,9 +24,9 @@ use Rattle.run.specs.declared.Sight.TheVariants.{AtRecord, AtEnd, AtNone}
 use Rattle.run.specs.declared.Stored.{Stored}
 use Rattle.run.specs.declared.Stored.TheVariants.{None}
 use Rattle.run.specs.declared.seat.Seat.{Seat}
-use Rattle.run.specs.Run.{Rehearsal, State, Course, agreeing, faced, over, used_up, rounds, run_of, Ending, ending, outcome}
+use Rattle.run.specs.Run.{Rehearsal, State, Course, agreeing, over, used_up, rounds, run_of, Ending, ending, outcome}
 use Rattle.run.specs.Place.{place_in, walks_place, same_place, begins, journey, fresh_run, resumed, Halting, halting, halt}
-use Rattle.run.specs.Code.{due_at, seat, seat_at, sight, seen_from, facing, used_up_at, counted, arrived, proceeded}
+use Rattle.run.specs.Code.{due_at, seat_at, sight, seen_from, facing, used_up_at, counted, arrived, proceeded}
 
 -- ---- what is seen
 pub sight_used : (t : AtAddress) → used_up_at (sight t) ≡ used_up t

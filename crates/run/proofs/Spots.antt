@@ -1,5 +1,5 @@
 -- Where a machine of a run is: at a record, which the kind at its place tells, or at none.
-use Prim.Native.Nat.{ℕ, ◌+◌, ◌-◌, ◌≤◌}
+use Prim.Native.Nat.{ℕ, ◌+◌, ◌≤◌}
 use mathlib.Core.Bool.{Bool, true, false}
 use mathlib.Core.List.{List}
 use mathlib.Core.Path.{◌≡◌, refl, sym, ap, ◌∙◌}
@@ -13,7 +13,7 @@ use Rattle.little.specs.Little.{byte}
 use Rattle.waiting.specs.Waiting.{nothing}
 use Rattle.waiting.proofs.Laws.{same_self}
 use Rattle.record.specs.declared.Record.{Record}
-use Rattle.flow.specs.Flow.{way, fills, after}
+use Rattle.flow.specs.Flow.{way, fills}
 use Rattle.kinds.specs.Kinds.{listing_length, record_of}
 use Rattle.reading.specs.declared.Place.{Place}
 use Rattle.reading.specs.declared.Read.{Read}
@@ -35,7 +35,6 @@ use Rattle.run.specs.declared.Sight.TheVariants.{AtEnd}
 use Rattle.run.specs.Run.{Rehearsal, agreeing, faced}
 use Rattle.run.specs.Code.{sight, spot, kind_there, Nowhere, At}
 use Rattle.run.proofs.Faced.{agreed_record}
-use Rattle.run.proofs.Steps.{on}
 
 -- ---- the bytes of a record
 -- the first byte of a record is that of the listing at its place

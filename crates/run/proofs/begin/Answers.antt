@@ -1,5 +1,4 @@
 use mathlib.Core.Path.{ap, ◌∙◌}
-use borrow.Author.Rules.{rules}
 use Rattle.run.specs.Place.{halt}
 use Rattle.run.proofs.Rounds.{proceeded_fresh}
 use Rattle.run.proofs.begin.Goals as goal

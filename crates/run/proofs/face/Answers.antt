@@ -1,4 +1,3 @@
-use borrow.Author.Rules.{rules}
 use Rattle.run.specs.Code.{facing}
 use Rattle.run.proofs.face.Goals as goal
 

@@ -1,4 +1,3 @@
-use borrow.Author.Rules.{rules}
 use Rattle.run.specs.Place.{same_place}
 use Rattle.run.proofs.is_same.Goals as goal
 

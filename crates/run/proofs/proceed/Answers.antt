@@ -1,6 +1,5 @@
 use mathlib.Core.Bool.{true, false, ◌&&◌}
 use mathlib.Core.Path.{◌≡◌, sym, ◌∙◌}
-use borrow.Author.Rules.{rules}
 use borrow.Author.Tests.{eqb-true}
 use Rattle.word.proofs.Cases.{both_true}
 use Rattle.setup.specs.Setup.{fits}

@@ -1,5 +1,4 @@
 use mathlib.Core.Path.{ap, ◌∙◌}
-use borrow.Author.Rules.{rules}
 use Rattle.run.specs.Place.{halt}
 use Rattle.run.proofs.Rounds.{proceeded_resumed}
 use Rattle.run.proofs.resume.Goals as goal

@@ -1,5 +1,4 @@
 use mathlib.Core.Path.{ap, ◌∙◌}
-use borrow.Author.Rules.{rules}
 use Rattle.run.proofs.Rounds.{ending_of, outcome_fresh}
 use Rattle.run.proofs.run.Goals as goal
 

@@ -1,4 +1,3 @@
-use borrow.Author.Rules.{rules}
 use Rattle.run.specs.Code.{seen_from}
 use Rattle.run.proofs.sight_of.Goals as goal
 

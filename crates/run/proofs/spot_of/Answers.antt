@@ -1,4 +1,3 @@
-use borrow.Author.Rules.{rules}
 use Rattle.run.specs.Code.{spot}
 use Rattle.run.proofs.spot_of.Goals as goal
 

@@ -1,4 +1,3 @@
-use borrow.Author.Rules.{rules}
 use Rattle.run.specs.Code.{used_up_at}
 use Rattle.run.proofs.used_up_of.Goals as goal
 

@@ -1,13 +1,8 @@
-use Prim.Native.Nat.{suc, ◌+◌, ◌-◌, ◌≤◌}
-use mathlib.Core.Path.{◌≡◌, refl, sym, ap, ◌∙◌}
-use native.Mathlib.Omega.{arith}
-use borrow.Author.Rules.{rules}
-use borrow.Author.Tests.{ne_eqb}
+use Prim.Native.Nat.{◌-◌, ◌≤◌}
+use mathlib.Core.Path.{◌≡◌}
 use lib.ListN.{length}
 use Rattle.run.specs.Run.{rehearsal, rounds}
 use Rattle.run.specs.Code.{Fit, parts_of, At, counted}
-use Rattle.run.proofs.Spots.{at_spot}
-use Rattle.run.proofs.Racing.{over_now, none_left}
 use Rattle.run.proofs.race.race.Given as goal
 
 abbrev pub invariant-loop-count : goal.invariant-loop-count

@@ -1,5 +1,4 @@
 use mathlib.Core.Path.{◌∙◌}
-use borrow.Author.Rules.{rules}
 use borrow.Author.Tests.{eqb-true}
 use Rattle.run.proofs.Seats.{ahead_start, ahead_landing, seat_landing}
 use Rattle.run.proofs.seat.find.Goals as goal
@@ -14,8 +13,7 @@ returns-then-here c =
 
 pub seek-requires : goal.seek-requires
 seek-requires c =
-    let f = c.before.before.before.before.before.before in
-    (
+    let f = c.before.before.before.before.before.before in (
       c.requires.0,
       rw c.nothing.ensures
           (ahead_landing c.args.listing.now c.args.base c.requires.0 _ c.requires.1 c.args.address _ _ c.last_to.ensures c.in-At.is),

@@ -1,4 +1,3 @@
-use borrow.Author.Rules.{rules}
 use Rattle.run.proofs.seat.no_seat.Goals as goal
 
 pub returns : goal.returns

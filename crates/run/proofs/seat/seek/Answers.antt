@@ -1,9 +1,7 @@
-use Prim.Native.Nat.{ℕ, ◌-◌}
+use Prim.Native.Nat.{ℕ}
 use mathlib.Core.Path.{◌≡◌, ◌∙◌}
 use native.Mathlib.Omega.{arith}
-use borrow.Author.Rules.{rules}
 use borrow.Author.Tests.{eqb-true, eqb-false}
-use lib.ListN.{length}
 use Rattle.layout.proofs.Points.{rises}
 use Rattle.layout.proofs.Turns.{Passed, passed, ended, stopped}
 use Rattle.run.specs.Code.{Ahead}

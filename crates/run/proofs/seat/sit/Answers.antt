@@ -1,5 +1,4 @@
 use mathlib.Core.Path.{◌≡◌, ◌∙◌, ap}
-use borrow.Author.Rules.{rules}
 use Rattle.layout.specs.Layout.{meets, filled}
 use Rattle.layout.specs.Code.{seen_filled}
 use Rattle.layout.proofs.Turns.{seen_as}
