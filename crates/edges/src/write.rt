@@ -1,10 +1,10 @@
-// The parts of a line.
+// The parts of a line. A write that fails is passed over.
 
-pub fn text(bytes: &[u8]) {
-    io::write_all(1, bytes);
+pub fn text(out: &impl Print, bytes: &[u8]) {
+    let _ = out.write_all(bytes);
 }
 
-pub fn word(x: u32) {
+pub fn word(out: &impl Print, x: u32) {
     let bytes = [
         b' ',
         digit(x >> 28),
@@ -16,23 +16,23 @@ pub fn word(x: u32) {
         digit(x >> 4),
         digit(x),
     ];
-    io::write_all(1, &bytes);
+    text(out, &bytes);
 }
 
-pub fn truth(t: bool) {
+pub fn truth(out: &impl Print, t: bool) {
     if t {
-        text(b" 1");
+        text(out, b" 1");
     } else {
-        text(b" 0");
+        text(out, b" 0");
     }
 }
 
-pub fn results() {
-    text(b" =");
+pub fn results(out: &impl Print) {
+    text(out, b" =");
 }
 
-pub fn end() {
-    text(b"\n");
+pub fn end(out: &impl Print) {
+    text(out, b"\n");
 }
 
 fn digit(x: u32) -> u8 {
