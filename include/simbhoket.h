@@ -1,5 +1,5 @@
 /* The C functions of the stepper. Every function answers for any bytes and numbers; a slice is a pointer and a length
-   (a pointer that is not null and aligned, also where the length is 0). Build: rt staticlib interface. */
+   (a pointer that is not null and aligned, also where the length is 0). Build: rt lib, in crates/interface. */
 #ifndef SIMBHOKET_H
 #define SIMBHOKET_H
 

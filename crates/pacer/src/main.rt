@@ -1,34 +1,18 @@
 // The program of paper 01 with a budget of its user's: four bytes of standard input, the lowest first; then the listing.
 
-use libc::{STDERR_FILENO, STDIN_FILENO, STDOUT_FILENO};
-use reading::Place;
-use run::Stored;
+#![tactic(auto)]
 
-// One byte over the limit tells that there are too many, and no more is read.
-fn main() {
+// One byte over the limit tells that there are too many, and no more is read. A write that fails is passed over.
+fn main(rt: HostRuntime) {
+    let mut input = rt.stdin();
     let mut head = [0u8; 4];
-    let given = io::read_full(STDIN_FILENO, &mut head);
+    let given = streams::read_full(&mut input, &mut head);
     let budget = little::word_at(&head[..given], 0);
     let mut space = [0u8; 32769];
-    let count = io::read_full(STDIN_FILENO, &mut space);
+    let count = streams::read_full(&mut input, &mut space);
     let mut room = [0u8; 256];
     let told = rehearsal::rehearse_within(budget, &space[..count], &mut room);
     let length = told.length;
-    io::write_all(STDOUT_FILENO, &room[..length]);
-    let place = told.place;
-    let stored = told.stored;
-    tell(place, stored);
-}
-
-// Paper 01 fixes what standard output has.
-fn tell(place: Place, stored: Stored) {
-    io::write_all(STDERR_FILENO, b"place ");
-    io::print_decimal(STDERR_FILENO, place.0 as u64);
-    let Stored::In(next) = stored else {
-        io::write_all(STDERR_FILENO, b"\nstored none\n");
-        return;
-    };
-    io::write_all(STDERR_FILENO, b"\nstored ");
-    io::print_decimal(STDERR_FILENO, next.0 as u64);
-    io::write_all(STDERR_FILENO, b"\n");
+    let _ = rt.write_all(&room[..length]);
+    streams::tell(&rt, told.place, told.stored);
 }
