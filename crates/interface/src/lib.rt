@@ -1,5 +1,7 @@
 // The C functions of the stepper, on numbers and byte slices: include/simbhoket.h declares them.
 
+#![tactic(auto)]
+
 ghost use Rattle.std.specs.Prelude.{◌%◌, ◌^◌, ◌≡◌};
 ghost use Rattle.setup.specs.Setup.{at_base};
 ghost use Rattle.little.specs.Little.{byte};

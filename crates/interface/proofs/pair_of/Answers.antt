@@ -2,14 +2,10 @@ use Prim.Native.Nat.{◌*◌, ◌%◌, ◌^◌}
 use mathlib.Core.Path.{◌≡◌}
 use native.Mathlib.Omega.{arith}
 use lib.Bits.{or_shifted}
-use Rattle.interface.proofs.pair_of.Statement.{statement}
-use Rattle.interface.proofs.pair_of.Tie as tie
+use Rattle.interface.proofs.pair_of.Goals as goal
 
-returns : tie.Need-returns
+pub returns : goal.returns
 returns c =
     let a = c.args in
     let e : a.high * 2 ^ 32 % 2 ^ 64 ≡ a.high * 2 ^ 32 = omega arith in
     rw (e, or_shifted a.high 32 a.low (omega arith))
-
-pub pair-of-spec : {M : Type 1} → statement M
-pair-of-spec = tie.close (tie.spec returns)

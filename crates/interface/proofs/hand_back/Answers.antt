@@ -1,0 +1,18 @@
+use mathlib.Core.Path.{refl}
+use Rattle.interface.specs.Interface.{place_number, with_place}
+use Rattle.interface.proofs.Laws.{stored_low}
+use Rattle.interface.proofs.hand_back.Goals as goal
+
+pub returns : goal.returns
+unfolding with_place
+returns c = (
+  refl,
+  c.write.ensures,
+  rw (
+    c.store_word.ensures,
+    c.place_number_of.ensures,
+    c.new.ensures,
+    c.tell.ensures,
+    stored_low _ _ 12 (place_number c.args.halted.running.stored),
+  ),
+)
