@@ -11,7 +11,7 @@ use Rattle.waiting.specs.Waiting.{waiting_count, dropped}
 use Rattle.record.specs.declared.Record.{Record}
 use Rattle.flow.specs.declared.Way.{Way}
 use Rattle.flow.specs.declared.Way.TheVariants.{Next, Direct, Taken, Fills}
-use Rattle.flow.specs.Flow.{traits, way, target, leaves, after}
+use Rattle.flow.specs.Flow.{traits, way, target, leaves}
 use Rattle.flow.proofs.Laws.{row, direct_drops}
 use Rattle.reading.specs.Reading.{part}
 use Rattle.layout.specs.declared.Point.{Point}

@@ -11,7 +11,7 @@ use Rattle.layout.specs.declared.Point.{Point}
 use Rattle.layout.specs.Layout.{Stands}
 use Rattle.listing.proofs.Accepted.{Accepted}
 use Rattle.machine.specs.Machine.{good}
-use Rattle.run.specs.Run.{Rehearsal, State, faced, over, rounds}
+use Rattle.run.specs.Run.{Rehearsal, State, faced, over}
 use Rattle.run.specs.Code.{Fit}
 use Rattle.run.proofs.Steps.{read_here, unrefused_here, untested, result, next_fit}
 use Rattle.demands.specs.Demand3.{Not1To4}

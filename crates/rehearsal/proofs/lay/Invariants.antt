@@ -1,9 +1,7 @@
 use Prim.Native.Nat.{◌-◌, ◌≤◌}
-use mathlib.Core.Path.{◌≡◌, refl}
+use mathlib.Core.Path.{◌≡◌}
 use mathlib.Core.List.{◌++◌}
-use native.Mathlib.Omega.{arith}
-use lib.ListN.{length, take, drop, length-set}
-use Rattle.rehearsal.proofs.Room.{laid_next}
+use lib.ListN.{length, take, drop}
 use Rattle.rehearsal.proofs.lay.Given as goal
 
 abbrev pub invariant-loop-i : goal.invariant-loop-i

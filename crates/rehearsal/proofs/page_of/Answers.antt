@@ -1,7 +1,6 @@
 use lib.ListN.{length}
 use borrow.Author.Tests.{lt-ltb, le-ltb}
 use Rattle.rehearsal.specs.Program.{text_of, text_after, place_of, place_after, stored_of, stored_after}
-use borrow.Author.Rules.{rules}
 use Rattle.rehearsal.proofs.page_of.Goals as goal
 
 pub returns-then-listing-gt-LIMIT : goal.returns-then-listing-gt-LIMIT

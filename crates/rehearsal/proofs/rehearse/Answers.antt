@@ -1,4 +1,3 @@
-use borrow.Author.Rules.{rules}
 use Rattle.rehearsal.proofs.rehearse.Goals as goal
 
 pub returns : goal.returns

@@ -5,7 +5,6 @@ use borrow.Author.Tests.{le-leb, lt-leb}
 use Rattle.rehearsal.specs.declared.Page.{Page}
 use Rattle.rehearsal.specs.Program.{text_of, laid, rehearsed}
 use Rattle.rehearsal.proofs.Room.{text_length, whole_page}
-use borrow.Author.Rules.{rules}
 use Rattle.rehearsal.proofs.rehearse_within.Goals as goal
 
 pub lay-requires : goal.lay-requires

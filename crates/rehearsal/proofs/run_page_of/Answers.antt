@@ -1,6 +1,5 @@
 use Rattle.rehearsal.specs.Program.{run_text}
 use Rattle.rehearsal.proofs.Room.{ran_is}
-use borrow.Author.Rules.{rules}
 use Rattle.rehearsal.proofs.run_page_of.Goals as goal
 
 pub returns : goal.returns

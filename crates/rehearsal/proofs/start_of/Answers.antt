@@ -1,5 +1,4 @@
 use Rattle.rehearsal.specs.Program.{program_start}
-use borrow.Author.Rules.{rules}
 use Rattle.rehearsal.proofs.start_of.Goals as goal
 
 pub returns : goal.returns
