@@ -21,7 +21,7 @@ const MEMORY_BASE: u32 = 0x2000_0000;
 
 const MEMORY_END: u32 = 0x2000_8000;
 
-const BUDGET: u32 = 1_000_000;
+pub const BUDGET: u32 = 1_000_000;
 
 // The length of the text, the place of what was refused, and the stored place that the run leaves.
 #[derive(Clone, Copy)]
