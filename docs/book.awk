@@ -101,6 +101,12 @@ function between(line) {
     return line
 }
 
+# of `Rattle.refusal.specs.declared.Refusal`, as in `use .. as why`, the type
+function last_part(path) {
+    sub(/^.*\./, "", path)
+    return path
+}
+
 # `use Rattle.machine.specs.Machine.{PC, held}`: in this file the names are those of machine/Machine
 function import(line, into,    crate, file, count, name, i) {
     crate = line
@@ -130,18 +136,23 @@ FNR == 1 && part != "order" {
 
 # ---- the code: types, and contracts
 
-part == "code" && FNR == 1 {
+(part == "types" || part == "code") && FNR == 1 {
     module = FILENAME
     sub(/^crates\/[^\/]*\/src\//, "::", module)
     sub(/(::lib|::main)?\.rt$/, "", module)
     gsub(/\//, "::", module)
     module = crate module
-    holder = note = ""
+    holder = trait = note = ""
+}
+part == "types" && /^pub (struct|enum) / {
+    type = $3
+    sub(/[^A-Za-z0-9].*/, "", type)
+    home[crate, type] = module
 }
 part == "code" && /^pub mod / {
     opened[module "::" substr($3, 1, length($3) - 1)]
 }
-part == "code" && /^ghost use Rattle\.[a-z_]+\.specs\.[A-Z]/ { import($0, FILENAME) }
+part == "code" && /^ghost use Rattle\.[a-z_]+\.specs\.[A-Z].*\{/ { import($0, FILENAME) }
 part == "code" && /^#\[/ { next }
 part == "code" && /^\/\/ / {
     note = (note == "" ? "" : note " ") substr($0, 4)
@@ -166,23 +177,47 @@ in_type {
 part == "code" && /^impl/ {
     holder = $0
     sub(/^impl(<[^>]*>)? /, "", holder)
+    trait = holder ~ / for /
+    sub(/^.* for /, "", holder)
     sub(/[^A-Za-z0-9].*/, "", holder)
+    owner = !trait ? module : (crate, holder) in home ? home[crate, holder] : crate
     holder = "::" holder
+    split("", gives)
 }
-part == "code" && /^}/ { holder = "" }
+part == "code" && /^}/ { holder = trait = "" }
+# in an `impl` of a trait the ghost member `METHOD_gives` says what a method answers
+part == "code" && /^    ghost [a-z_]+_gives = / {
+    line = $2
+    sub(/_gives$/, "", line)
+    gives[line] = contract_of($0)
+}
 part == "code" && /^ *(pub )?(extern "C" )?fn / { contract = "" }
 part == "code" && /^ *(pub )?(extern "C" )?fn /, /\{$/ {
     contract = contract (contract == "" ? "" : " ") trim($0)
     if (/\{$/) take_contract(contract)
 }
 
+# ` { λ a r. r ≡ f a };` says of a method that its result is f a
+function contract_of(line,    at, count, name, end) {
+    if (!sub(/^.*_gives = \{ λ /, "", line) || !sub(/ \};$/, "", line)) return ""
+    at = index(line, ". ")
+    count = split(substr(line, 1, at - 1), name, " ")
+    line = substr(line, at + 2)
+    end = name[count] " ≡ "
+    if (index(line, end) != 1) return ""
+    line = substr(line, length(end) + 1)
+    return line ~ ("(^|[^A-Za-z0-9_.])" name[count] "([^A-Za-z0-9_]|$)") ? "" : "ensures { result ≡ " line " }"
+}
+
 function take_contract(contract,    name, count, word, i, own, cited) {
     name = contract
     sub(/^.*fn /, "", name)
     sub(/[^A-Za-z0-9_].*/, "", name)
-    name = module holder "::" name
+    if (trait && name in gives) contract = substr(contract, 1, length(contract) - 1) gives[name] " {"
+    name = (holder == "" ? module : owner holder) "::" name
     contracts[name] = contract
     if (contract ~ /^pub /) module_of[name] = module
+    if (trait) module_of[name] = crate
     take_arguments(contract, own)
     if (!index(contract, " ensures ")) return
     contract = substr(contract, index(contract, " ensures "))
@@ -210,7 +245,7 @@ part == "specs" && FNR == 1 { comment = name = "" }
 part == "specs" && /^use / {
     if (comment != "") head_of[key] = comment
     comment = ""
-    if (/Rattle\.[a-z_]+\.specs\.declared\./ && !/TheVariants/) spoken[key] = spoken[key] " " between($0)
+    if (/Rattle\.[a-z_]+\.specs\.declared\./ && !/TheVariants/) spoken[key] = spoken[key] " " (/ as [A-Za-z]+$/ ? last_part($2) : between($0))
     if (/Rattle\.[a-z_]+\.specs\.[A-Z]/) import($0, key)
     if (/^use (Rattle\.std|mathlib)\./) note_words(between($0))
 }

@@ -3,7 +3,7 @@
 
 BEGIN {
     EDITS = "^(must-fail edits|first|second)$"
-    TITLES = "^(phrase of 0[12]|definition|promise|function|must-fail edits|first|second|test|crate|A|B|C|why|at|tried|edits|seconds|refused|not refused|tried how|how)$"
+    TITLES = "^(phrase of 0[12]|definition|promise|function|must-fail edits|first|second|test|crate|A|B|C|teller|why|at|tried|edits|seconds|refused|not refused|tried how|how)$"
 }
 
 function amiss(what) {
@@ -60,7 +60,7 @@ function is_maker(line,    at, names, name, fields, field, i) {
 
 # ---- the code
 
-part == "code" && FNR == 1 {
+(part == "types" || part == "code") && FNR == 1 {
     split(FILENAME, piece, "/")
     module = FILENAME
     sub(/^crates\/[^\/]*\/src\//, "::", module)
@@ -68,8 +68,9 @@ part == "code" && FNR == 1 {
     gsub(/\//, "::", module)
     module = piece[2] module
     modules[module]
-    type = ""
+    type = trait = ""
 }
+part == "types" && /^pub (struct|enum) / { home[piece[2], word_of($3)] = module }
 part == "code" && /^pub mod / { open[module "::" word_of($3)] }
 part == "code" && /^pub (struct|enum) / {
     holder = word_of($3)
@@ -79,9 +80,21 @@ part == "code" && /^    (pub )?[a-z_]+: &'[a-z]+ mut / { lent_in[holder] }
 part == "code" && /^impl/ {
     type = $0
     sub(/^impl(<[^>]*>)? /, "", type)
-    type = "::" word_of(type)
+    trait = type
+    sub(/^.* for /, "", type)
+    trait = type == trait ? "" : word_of(trait)
+    type = word_of(type)
+    owner = trait == "" ? module : (piece[2], type) in home ? home[piece[2], type] : piece[2]
+    type = "::" type
+    split("", gives)
 }
-part == "code" && /^}/ { type = "" }
+part == "code" && /^}/ { type = trait = "" }
+# in an `impl` of a trait the ghost member `METHOD_gives` says what a method answers
+part == "code" && /^    ghost [a-z_]+_gives = / {
+    name = $2
+    sub(/_gives$/, "", name)
+    gives[name] = contract_of($0)
+}
 part == "code" && /^ *pub const / { put(module type "::" word_of($3)) }
 part == "code" && /^ *(pub )?(extern "C" )?fn / { head = "" }
 part == "code" && /^ *(pub )?(extern "C" )?fn /, /\{$/ {
@@ -89,11 +102,26 @@ part == "code" && /^ *(pub )?(extern "C" )?fn /, /\{$/ {
     if (/\{$/) {
         name = head
         sub(/^.*fn /, "", name)
-        name = module type "::" word_of(name)
+        name = word_of(name)
+        if (trait != "" && name in gives) head = substr(head, 1, length(head) - 1) gives[name] " {"
+        name = (type == "" ? module : owner type) "::" name
         put(name)
         heads[name] = head
         if (head ~ /^ *pub /) public[name] = module
+        if (trait != "") of_trait[name]
     }
+}
+
+# ` { λ a r. r ≡ f a };` says of a method that its result is f a
+function contract_of(line,    at, count, name, end) {
+    if (!sub(/^.*_gives = \{ λ /, "", line) || !sub(/ \};$/, "", line)) return ""
+    at = index(line, ". ")
+    count = split(substr(line, 1, at - 1), name, " ")
+    line = substr(line, at + 2)
+    end = name[count] " ≡ "
+    if (index(line, end) != 1) return ""
+    line = substr(line, length(end) + 1)
+    return line ~ ("(^|[^A-Za-z0-9_.])" name[count] "([^A-Za-z0-9_]|$)") ? "" : "ensures { result ≡ " line " }"
 }
 
 function word_of(text) {
@@ -110,8 +138,9 @@ function put(name,    ending) {
     } while (sub(/^[^:]*::/, "", ending))
 }
 
-# Can another crate call it? Not in a program, nor in a module that is not `pub mod` all the way.
+# Can another crate call it? Not in a program, nor in a module that is not `pub mod` all the way; what a trait gives a type it always can.
 function is_public(name,    place) {
+    if (name in of_trait) return 1
     if (!(name in public)) return 0
     for (place = public[name]; place ~ /::/; sub(/::[^:]*$/, "", place))
         if (!(place in open)) return 0
@@ -130,6 +159,7 @@ function shape(name,    head, at, contract, left, right, count, lent, maker) {
     left = substr(contract, 1, at - 1)
     right = substr(contract, at + length(" ≡ "))
     if (!at || right ~ /\.new|×|→|⊎|∧|∨|≡/ || right ~ /(^|[^A-Za-z0-9_.])result([^A-Za-z0-9_]|$)/) return "C"
+    left = told(left)
     for (count = 0; match(head, /[a-z_]+: &('[a-z]+ )?mut /); count++) {
         lent = lent " " word_of(substr(head, RSTART)) ".new"
         head = substr(head, RSTART + RLENGTH)
@@ -141,10 +171,47 @@ function shape(name,    head, at, contract, left, right, count, lent, maker) {
     return maker in makers && left == maker " result" lent ? "B" : "C"
 }
 
+# `(x : T) → TELLER x result` or `MAKER (TELLER x result) memory.new`, of a teller as docs/PROMISES.md lists them, tells `result` apart
+function told(left,    before, after, name) {
+    while (sub(/^\([a-z_]+ : [A-Z][a-z]+\) → /, "", left));
+    for (name in tellers) {
+        if (left ~ ("^" name "( [a-z_.]+)* result$") && left !~ /result.* result$/) return "result"
+        if (match(left, " \\(" name "( [a-z_.]+)* result\\)")) {
+            before = substr(left, 1, RSTART)
+            after = substr(left, RSTART + RLENGTH)
+            if ((before after) !~ /result/) return before "result" after
+        }
+    }
+    return left
+}
+
 # May it change what a reference inside an argument lends?
 function is_lent_inside(name,    type) {
     if (heads[name] ~ /&('[a-z]+ )?mut self/) return 1
     for (type in lent_in) if ((name "(" heads[name]) ~ ("[^A-Za-z]" type "[^A-Za-z]")) return 1
+    return 0
+}
+
+# ---- docs/ARCHITECTURE.md and docs/PROVING.md: the functions, files and folders that they name
+
+part == "guides" {
+    column = "text"
+    count = split($0, word, "`")
+    for (i = 2; i <= count; i += 2)
+        if (split(word[i], piece, "/") > 1 && piece[1] in crates && word[i] !~ /[ *]/) {
+            if (!is_place("crates/" word[i])) missing(word[i], "no such file or folder")
+        } else if (word[i] ~ /^[a-z_]+::[A-Za-z_:]+$/ && !(word[i] in modules)) {
+            name = word[i]
+            sub(/^.*::/, "", name)
+            if (!(name in types)) look_up_function(word[i])
+        }
+}
+
+# a file, with or without its ending, or a folder
+function is_place(path,    one) {
+    sub(/\/$/, "", path)
+    if (path in there) return 1
+    for (one in there) if (index(one, path) == 1 && substr(one, length(path) + 1) ~ /^(\/|\.[a-z]+$)/) return 1
     return 0
 }
 
@@ -170,7 +237,7 @@ part == "promises" && /^\|/ {
         }
     } else if (!/^\|---/) {
         rows++
-        crate = ""
+        crate = teller = ""
         for (i = 2; i < count; i++) look_up(title[i], cell[i])
         column = "row"
         if (count != columns) missing("cells", count - 2 " of them, of " columns - 2)
@@ -184,10 +251,15 @@ function look_up(title, cell,    count, word, i) {
     count = split(cell, word, "`")
     for (i = 2; i <= count; i += 2)
         if (title == "definition") look_up_definition(word[i], word[i + 1])
-        else if (title == "promise" && word[i - 1] ~ /theorem $/) look_up_theorem(word[i])
-        else if (title == "promise" || title == "function") look_up_function(word[i])
+        else if (title == "promise" && word[i - 1] ~ /theorem $/) {
+            look_up_theorem(word[i])
+            if (teller != "") look_up_telling(word[i])
+        } else if (title == "promise" || title == "function") look_up_function(word[i])
         else if (title ~ EDITS) look_up_edit(word[i])
-        else if (title == "crate") crate = word[i]
+        else if (title == "teller") {
+            look_up_definition(word[i], word[i + 1])
+            if (word[i + 1] !~ /^:/) teller = word[i]
+        } else if (title == "crate") crate = word[i]
         else if (title ~ /^[ABC]$/) look_up_public(word[i], title)
 }
 
@@ -254,6 +326,17 @@ function look_up_theorem(word,    file) {
     missing(word, "no such theorem in crates/*/proofs")
 }
 
+# it says that two answers which the teller tells alike are the same
+function look_up_telling(word,    file, of) {
+    of = teller "( [a-z]+)*"
+    for (file in text_of)
+        if (text_of[file] ~ ("\npub " word " : [^\n]* → " of " a ≡ " of " b → a ≡ b\n")) {
+            tellers[teller]
+            return
+        }
+    missing(word, "it does not say that `" teller "` tells two answers apart")
+}
+
 function look_up_edit(word) {
     if (word in labels && labels[word] > 1) missing(word, "edits of several crates: write CRATE/" word)
     else if (word in labels) named["edit", edit_of[word]]
@@ -299,6 +382,7 @@ function look_up_public(word, expected,    count, each, i, name) {
 }
 
 END {
+    for (name in of_trait) public[name]
     for (name in public)
         if (is_public(name)) {
             if (!(("list", name) in named)) amiss(name ": a public function that is not in the list of \"One outcome\"")

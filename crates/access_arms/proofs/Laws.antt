@@ -1,66 +1,67 @@
 -- What the step's definitions make of an access on a machine that is put together from its parts.
-use Rattle.std.proofs.Common.{◌≡◌, ℕ, zero, suc, ◌+◌, Bool, true, false, not, ◌&&◌, eqb, List, refl, arith}
-use Rattle.std.specs.Bool.{if◌then◌else◌}
+use Rattle.std.proofs.Common.{◌≡◌, ℕ, zero, suc, ◌+◌, Bool, true, false, not, ◌&&◌, eqb, List, Option, None, Some, Result, Ok, Err, IsErrAnd, refl, arith, eqb-true}
+use Rattle.std.proofs.lemmas.Result.{err_from_is_err_and}
+use Rattle.std.specs.Bool.{if◌then◌else◌, then_some}
 use Rattle.word.specs.Word.{bit}
+use Rattle.word.proofs.Cases.{cases, yes_or_no}
 use Rattle.flags.specs.declared.Flags.{Flags}
+use Rattle.refusal.specs.declared.Refusal.{Refusal}
+use Rattle.refusal.specs.Refusal.{number_of}
+use Rattle.refusal.proofs.Laws.{some_number}
 use Rattle.waiting.specs.declared.Waiting.{Waiting}
 use Rattle.register_list.specs.List.{member}
 use Rattle.setup.specs.declared.Setup.{Setup}
 use Rattle.memory.specs.Memory.{loaded}
 use Rattle.transfer.specs.Transfer.{slot}
 use Rattle.machine.specs.declared.Machine.{Machine}
-use Rattle.machine.specs.declared.Stepped.{Stepped}
-use Rattle.machine.specs.Machine.{PC, held, written, steady, settled, done, refused, landed, Outcome, keeping}
+use Rattle.machine.specs.Machine.{PC, held, written, steady, settled, Stepped, done, refused, landed, Outcome, keeping}
 use Rattle.machine.specs.Access.{arriving, list_loaded, list_arriving}
 use Rattle.lent.specs.Lent.{assembled, put_in, steady_in, came}
-use Rattle.access_arms.specs.Reaching.{backed, loaded_in, Arrives}
+use Rattle.access_arms.specs.declared.reach.Back.{Back}
+use Rattle.access_arms.specs.Reaching.{backed, back_in, loaded_in, Arrives}
 
-pub backed_parts : (x : List ℕ) (f : Flags) (v : Waiting) (plain : Bool) (rn to : ℕ)
-    → backed (assembled x f v) plain rn to ≡ assembled (if plain then x else put_in x rn to) f v
+-- ---- the base written back
+pub backed_parts : (e : List ℕ) (ahead : ℕ) (f : Flags) (v : Waiting) (back : Option Back)
+    → backed (assembled (put_in e PC ahead) f v) back ≡ assembled (back_in e ahead back) f v
 unfolding written
-backed_parts x f v true rn to = refl
-backed_parts x f v false rn to = refl
+backed_parts e ahead f v None = refl
+backed_parts e ahead f v (Some b) = refl
 
-lands_or : (p b : Bool) (s r : Stepped) → (if p then (if b then s else r) else s) ≡ (if (p && not b) then r else s)
-lands_or true true s r = refl
-lands_or true false s r = refl
-lands_or false true s r = refl
-lands_or false false s r = refl
+-- where the mode says so
+pub backed_unless : (plain : Bool) (back : Option Back) (b : Back) → back ≡ then_some (not plain) b
+    → (next : Machine) → (if plain then next else written next b.rn b.to) ≡ backed next back
+backed_unless true back b h next = rw h
+backed_unless false back b h next = rw h
 
--- a load in one test, before anything is written
-arrives_or : (m back : Machine) (rt value : ℕ)
-    → arriving m back rt value ≡ (if (eqb rt PC && not (bit 0 value)) then refused 7 m else settled m (written back rt value))
-unfolding arriving landed
-arrives_or m back rt value = lands_or (eqb rt PC) (bit 0 value) (settled m (written back rt value)) (refused 7 m)
+-- where the record says so
+pub backed_where : (writes : Bool) (back : Option Back) (b : Back) → back ≡ then_some writes b
+    → (next : Machine) → (if writes then written next b.rn b.to else next) ≡ backed next back
+backed_where true back b h next = rw h
+backed_where false back b h next = rw h
 
-module _ (m : Machine) (x : List ℕ) (f : Flags) (v : Waiting) (plain : Bool) (rn to rt value : ℕ) (odd : Bool) (h : odd ≡ bit 0 value) where
-  pub lost : (eqb rt PC && not odd) ≡ true → refused 7 m ≡ arriving m (backed (assembled x f v) plain rn to) rt value
-  lost t = rw (arrives_or m (backed (assembled x f v) plain rn to) rt value, ← h, t)
+-- ---- a load
+module _ (m back : Machine) (rt value : ℕ) where
+  pub lost : rt ≡ PC → bit 0 value ≡ false → arriving m back rt value ≡ refused 7 m
+  unfolding arriving landed
+  lost e even = rw (e, even)
 
-  pub stays : (eqb rt PC && not odd) ≡ false
-      → settled m (assembled (put_in (if plain then x else put_in x rn to) rt value) f v)
-      ≡ arriving m (backed (assembled x f v) plain rn to) rt value
-  unfolding written
-  stays t = rw (arrives_or m (backed (assembled x f v) plain rn to) rt value, ← h, t, backed_parts x f v plain rn to)
+  pub arrives : (rt ≡ PC → bit 0 value ≡ true) → arriving m back rt value ≡ settled m (written back rt value)
+  unfolding arriving landed
+  arrives odd = cases (yes_or_no (eqb rt PC)) (λ t. rw (t, odd (eqb-true rt PC t))) (λ t. rw t)
 
 -- ---- refused with 5 or 6, or not
-module _ (refusal number : ℕ) (h : number ≡ refusal) where
-  pub granted : (made kept x : Outcome) → eqb number 0 ≡ true → x ≡ made → x ≡ (if eqb refusal 0 then made else kept)
-  granted made kept x t e = rw (← h, t) e
+module _ (refusal : ℕ) (a : Result Unit Refusal) (h : number_of a ≡ refusal) where
+  pub granted : (u : Unit) → a ≡ Ok u → (made kept x : Outcome) → x ≡ made → x ≡ (if eqb refusal 0 then made else kept)
+  granted u t made kept x e = rw (← h, t) e
 
-  pub declined : (e bytes : List ℕ) (f : Flags) (w v : Waiting) (made : Outcome) → eqb number 0 ≡ false
-      → keeping (came number e f w v) bytes ≡ (if eqb refusal 0 then made else keeping (refused refusal (assembled e f w)) bytes)
+  pub declined : (k : Refusal) → a ≡ Err k → (q : Result Unit Refusal) → IsErrAnd q (λ e. e ≡ k)
+      → (e bytes : List ℕ) (f : Flags) (w v : Waiting) (made : Outcome)
+      → keeping (came (number_of q) e f w v) bytes ≡ (if eqb refusal 0 then made else keeping (refused refusal (assembled e f w)) bytes)
   unfolding refused
-  declined e bytes f w v made t = rw (← h, t)
+  declined k t q on e bytes f w v made =
+      let p = err_from_is_err_and q on in rw (p.1, p.2, ← h, t, some_number k)
 
 -- ---- a list
--- a base written back where the record says so
-pub writeback_parts : (x : List ℕ) (f : Flags) (v : Waiting) (writes : Bool) (rn to : ℕ)
-    → (if writes then written (assembled x f v) rn to else assembled x f v) ≡ assembled (if not writes then x else put_in x rn to) f v
-unfolding written
-writeback_parts x f v true rn to = refl
-writeback_parts x f v false rn to = refl
-
 listed_parts : (x : List ℕ) (f : Flags) (v : Waiting) (listed : Bool) (n value : ℕ)
     → (if listed then written (assembled x f v) n value else assembled x f v) ≡ assembled (if listed then put_in x n value else x) f v
 unfolding written

@@ -1,6 +1,6 @@
 -- For the code: where an access of kinds 0D and 0E reaches, which one function then makes for both; registers with a base written back,
 -- and with a list loaded.
-use Rattle.std.specs.Prelude.{◌≡◌, ℕ, zero, suc, ◌<◌, ◌≤◌, Bool, ◌&&◌, List}
+use Rattle.std.specs.Prelude.{◌≡◌, ℕ, zero, suc, ◌≤◌, Bool, ◌&&◌, List, Option, None, Some}
 use Rattle.std.specs.Bool.{if◌then◌else◌}
 use Rattle.word.specs.Word.{bit}
 use Rattle.little.specs.Little.{byte}
@@ -16,7 +16,8 @@ use Rattle.machine.specs.Machine.{PC, written}
 use Rattle.machine.specs.Access.{access_done}
 use Rattle.machine.specs.Step.{effect}
 use Rattle.lent.specs.Lent.{assembled, put_in, steady_in, Formed}
-use Rattle.access_arms.specs.declared.Reach.{Reach}
+use Rattle.access_arms.specs.declared.reach.Back.{Back}
+use Rattle.access_arms.specs.declared.reach.Reach.{Reach}
 
 -- a record of one of the two kinds
 pub record Accesses (r : List ℕ) : Type 0 where
@@ -24,22 +25,22 @@ pub record Accesses (r : List ℕ) : Type 0 where
   pub most : byte r 0 ≤ 14
   pub sound : Formed r
 
--- the base written back, unless the access is plain
-abbrev pub backed : Machine → Bool → ℕ → ℕ → Machine
-backed next plain rn to = if plain then next else written next rn to
+-- the base written back, where one is
+abbrev pub backed : Machine → Option Back → Machine
+backed next None = next
+backed next (Some b) = written next b.rn b.to
 
 -- the same of registers, at the next record
-abbrev pub back_in : List ℕ → ℕ → Bool → ℕ → ℕ → List ℕ
-back_in registers ahead plain rn to = if plain then put_in registers PC ahead else put_in (put_in registers PC ahead) rn to
+abbrev pub back_in : List ℕ → ℕ → Option Back → List ℕ
+back_in registers ahead None = put_in registers PC ahead
+back_in registers ahead (Some b) = put_in (put_in registers PC ahead) b.rn b.to
 
 -- where the record reaches: it does what `access_done` says of it
 pub record Reaches (registers : List ℕ) (r : List ℕ) (d : Reach) : Type 0 where
-  pub rn_small : d.rn < 16
-  pub rt_small : d.rt < 16
   pub means : (f : Flags) (w : Waiting) (next : Machine) (bytes : List ℕ) (setup : Setup)
       → let m = assembled registers f w in
       effect m next (record_of r) bytes setup
-      ≡ access_done m (backed next d.plain d.rn d.to) d.op d.rt d.address bytes setup
+      ≡ access_done m (backed next d.back) d.op d.rt d.address bytes setup
 
 -- registers with those of a list below r loaded, as `list_loaded` has it
 unfoldable pub loaded_in : ℕ → List ℕ → ℕ → ℕ → List ℕ → Setup → List ℕ

@@ -26,5 +26,5 @@ pub fn link(x: u32) -> u32
 pub fn offset_by(x: u32, offset: i32) -> u32
     ensures { result ≡ moved x offset }
 {
-    std::num::wrapping_add_u32(x, word::unsigned_of(offset))
+    x.wrapping_add_signed(offset)
 }

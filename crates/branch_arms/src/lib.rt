@@ -3,14 +3,15 @@
 #![tactic(auto)]
 
 ghost use Rattle.std.specs.Prelude.{◌≡◌};
-ghost use Rattle.machine.specs.Branch.{branches};
+ghost use Rattle.refusal.specs.Refusal.{number_of};
 ghost use Rattle.machine.specs.Machine.{PC};
 ghost use Rattle.lent.specs.Lent.{put_in, Settled, OfKind, ObeysOn, ObeysMoving};
 ghost use Rattle.branch_arms.specs.Link.{link_in};
 
 use lent::bytes;
-use record::op::CompareOp;
+use machine::branch::branches_of;
 use record::register;
+use refusal::Refusal;
 use setup::Setup;
 use transfer::Alignment;
 
@@ -19,14 +20,10 @@ pub fn branch_off(registers: &mut [u32; 16], ahead: u32, r: &[u8])
     requires { OfKind 17 r.now }
     ensures { ObeysOn 0 registers.new registers.old ahead r.now }
 {
-    let record = bytes::eight(r);
-    let d = kinds::branch_from(record);
-    let op = d.op;
-    let links = record::op::is_bl_of(op);
-    let from = lent::read(registers, register::PC);
-    let near = std::num::wrapping_add_u32(from, 4);
+    let d = kinds::branch_from(bytes::first::<8>(r));
+    let near = lent::read(registers, register::PC).wrapping_add(4);
     let to = address::offset_by(near, d.offset);
-    link(registers, ahead, links);
+    link(registers, ahead, d.op.is_bl());
     lent::put(registers, register::PC, to);
 }
 
@@ -42,37 +39,28 @@ fn link(registers: &mut [u32; 16], ahead: u32, links: bool)
 }
 
 // 12: Rm is read before R14 is written.
-pub fn branch_to_register(registers: &mut [u32; 16], ahead: u32, r: &[u8]) -> u32
+pub fn branch_to_register(registers: &mut [u32; 16], ahead: u32, r: &[u8]) -> Result<(), Refusal>
     requires { OfKind 18 r.now }
-    ensures { ObeysOn result registers.new registers.old ahead r.now }
+    ensures { ObeysOn (number_of result) registers.new registers.old ahead r.now }
 {
-    let record = bytes::four(r);
-    let d = kinds::register_branch_from(record);
-    let op = d.op;
-    let links = record::op::is_blx_of(op);
+    let d = kinds::register_branch_from(bytes::first::<4>(r));
     let to = lent::operand(registers, d.rm);
-    let odd = word::bit_of(0, to);
-    if odd {
-        let fine = settle_link(registers, ahead, links, to);
-        if fine {
-            return 0;
-        }
-        return 7;
+    if !word::bit_of(0, to) {
+        return Err(Refusal::Unsteady);
     }
-    7
+    settle_link(registers, ahead, d.op.is_blx(), to)
 }
 
 // R13 is not among what is written, but what was there may be no multiple of 4.
-fn settle_link(registers: &mut [u32; 16], ahead: u32, links: bool, to: u32) -> bool
+fn settle_link(registers: &mut [u32; 16], ahead: u32, links: bool, to: u32) -> Result<(), Refusal>
     ensures { Settled registers.old (put_in (link_in registers.old ahead links) PC to) registers.new result }
 {
-    let steady = lent::is_steady(registers);
-    if steady {
-        link(registers, ahead, links);
-        lent::put(registers, register::PC, to);
-        return true;
+    if !lent::is_steady(registers) {
+        return Err(Refusal::Unsteady);
     }
-    false
+    link(registers, ahead, links);
+    lent::put(registers, register::PC, to);
+    Ok(())
 }
 
 // 13: never refused.
@@ -80,28 +68,14 @@ pub fn compare_and_branch(registers: &mut [u32; 16], ahead: u32, r: &[u8])
     requires { OfKind 19 r.now }
     ensures { ObeysOn 0 registers.new registers.old ahead r.now }
 {
-    let record = bytes::five(r);
-    let d = kinds::compare_branch_from(record);
-    let op = d.op;
-    let value = lent::read(registers, d.rn);
-    let goes = branches_of(op, value);
-    if goes {
-        let from = lent::read(registers, register::PC);
-        let near = std::num::wrapping_add_u32(from, 4);
-        let to = std::num::wrapping_add_u32(near, d.offset as u32);
+    let d = kinds::compare_branch_from(bytes::first::<5>(r));
+    if branches_of(d.op, lent::read(registers, d.rn)) {
+        let near = lent::read(registers, register::PC).wrapping_add(4);
+        let to = near.wrapping_add(u32::from(d.offset));
         lent::put(registers, register::PC, to);
         return;
     }
     lent::put(registers, register::PC, ahead);
-}
-
-fn branches_of(op: CompareOp, value: u32) -> bool
-    ensures { result ≡ branches op value }
-{
-    match op {
-        CompareOp::Cbz => value == 0,
-        CompareOp::Cbnz => !(value == 0),
-    }
 }
 
 // 16
@@ -111,25 +85,22 @@ pub fn branch_by_table(
     r: &[u8],
     memory: &[u8],
     setup: Setup,
-) -> u32
+) -> Result<(), Refusal>
     requires { OfKind 22 r.now }
-    ensures { ObeysMoving result registers.new memory.now registers.old ahead r.now memory.now setup }
+    ensures { ObeysMoving (number_of result) registers.new memory.now registers.old ahead r.now memory.now setup }
 {
-    let record = bytes::five(r);
-    let d = kinds::table_branch_from(record);
-    let op = d.op;
-    let width = transfer::entry_width_of(op);
+    let d = kinds::table_branch_from(bytes::first::<5>(r));
+    let width = transfer::entry_width_of(d.op);
     let table = lent::operand(registers, d.rn);
     let index = lent::read(registers, d.rm);
-    let at = transfer::entry_address_of(op, table, index);
-    let refusal = transfer::refusal_of(Alignment::Byte, width, setup, memory, at);
-    let fine = refusal == 0;
-    if fine {
-        let entry = transfer::load_entry(op, setup, memory, at);
-        let from = lent::read(registers, register::PC);
-        let to = transfer::table_target_of(from, entry);
-        lent::put(registers, register::PC, to);
-        return 0;
-    }
-    refusal
+    let at = transfer::entry_address_of(d.op, table, index);
+    transfer::refusal_of(Alignment::Byte, width, setup, memory, at)?;
+    let entry = transfer::load_entry(d.op, setup, memory, at);
+    let from = lent::read(registers, register::PC);
+    lent::put(
+        registers,
+        register::PC,
+        transfer::table_target_of(from, entry),
+    );
+    Ok(())
 }

@@ -9,13 +9,11 @@ ghost use Rattle.constant.specs.Constant.{shifted_byte, repeated_byte, constant,
 pub fn is_shifted_byte(x: u32) -> bool
     ensures { result ≡ shifted_byte x }
 {
-    let length = 32 - u32::leading_zeros(x);
-    if length <= 8 {
-        return true;
-    }
-    x & word::ones(length - 8) == 0
+    let length = 32 - x.leading_zeros();
+    x & word::ones(length.saturating_sub(8)) == 0
 }
 
+#[tactic(auto, unfolding(crate::specs::Constant::repeated_byte))]
 pub fn is_repeated_byte(x: u32) -> bool
     ensures { result ≡ repeated_byte x }
 {
@@ -24,18 +22,20 @@ pub fn is_repeated_byte(x: u32) -> bool
     (x == low * 0x0001_0001) | ((x == next * 0x0100_0100) | (x == low * 0x0101_0101))
 }
 
+#[tactic(auto, unfolding(crate::specs::Constant::constant))]
 pub fn is_constant(x: u32) -> bool
     ensures { result ≡ constant x }
 {
     is_shifted_byte(x) | is_repeated_byte(x)
 }
 
+#[tactic(auto, unfolding(crate::specs::Constant::constant_carry))]
 pub fn carry_of(x: u32, carry: bool) -> bool
     ensures { result ≡ constant_carry x carry }
 {
-    let gives = (255 < x) & is_shifted_byte(x);
-    if gives {
-        return x >> 31 == 1;
+    if 255 < x && is_shifted_byte(x) {
+        x >> 31 == 1
+    } else {
+        carry
     }
-    carry
 }

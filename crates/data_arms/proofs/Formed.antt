@@ -25,8 +25,8 @@ use Rattle.record.specs.declared.BitFieldFields.{BitFieldFields}
 use Rattle.record.specs.declared.ExtendFields.{ExtendFields}
 use Rattle.record.specs.declared.Record.TheVariants.{ShiftedRegister, Constant, RegisterShift, AddNumber, MoveNumber, Unary, Multiply, LongMultiply, Divide, Saturate, BitField, Extend}
 use Rattle.fields.specs.Fields.{register, data_operands, shift_amount, turns, multiply_accumulates, saturated_bits, saturated_shift, field_source, well_formed}
-use Rattle.kinds.specs.Kinds.{record_of, nine, shifted_register_from, constant_from, register_shift_from, add_number_from, move_number_from, unary_from, multiply_from, long_multiply_from, divide_from, saturate_from, bit_field_from, extend_from}
-use Rattle.lent.specs.Lent.{OfKind, first_5, first_6, first_7, first_8}
+use Rattle.kinds.specs.Kinds.{record_of, shifted_register_from, constant_from, register_shift_from, add_number_from, move_number_from, unary_from, multiply_from, long_multiply_from, divide_from, saturate_from, bit_field_from, extend_from}
+use Rattle.lent.specs.Lent.{OfKind, first}
 use Rattle.lent.proofs.Laws.{read_as, formed_as}
 
 -- ---- registers that are tested, after something else
@@ -58,7 +58,7 @@ data_below op form rd rn h =
     two_after true rd rn (both_true (register rd && register rn) named p.0).0
 
 -- ---- 01
-module _ (r t : List ℕ) (k : OfKind 1 r) (d : ShiftedRegisterFields) (b : t ≡ first_8 r) (h : ShiftedRegister d ≡ shifted_register_from t) where
+module _ (r t : List ℕ) (k : OfKind 1 r) (d : ShiftedRegisterFields) (b : t ≡ first 8 r) (h : ShiftedRegister d ≡ shifted_register_from t) where
   pub shifted_register_is : record_of r ≡ ShiftedRegister d
   unfolding shifted_register_from
   shifted_register_is = read_as 1 r k ∙ sym (rw b at h)
@@ -72,7 +72,7 @@ module _ (r t : List ℕ) (k : OfKind 1 r) (d : ShiftedRegisterFields) (b : t �
       (s.0, s.1, ltb-true d.rm 16 q.1)
 
 -- ---- 02
-module _ (r t : List ℕ) (k : OfKind 2 r) (d : ConstantFields) (b : t ≡ nine r) (h : Constant d ≡ constant_from t) where
+module _ (r t : List ℕ) (k : OfKind 2 r) (d : ConstantFields) (b : t ≡ first 9 r) (h : Constant d ≡ constant_from t) where
   pub constant_is : record_of r ≡ Constant d
   unfolding constant_from little
   constant_is = read_as 2 r k ∙ sym (rw b at h)
@@ -83,7 +83,7 @@ module _ (r t : List ℕ) (k : OfKind 2 r) (d : ConstantFields) (b : t ≡ nine 
       data_below d.op d.form d.rd d.rn (both_true (data_operands d.op d.form d.rd d.rn) (constant d.constant) (formed_as 2 r k (Constant d) constant_is)).0
 
 -- ---- 03
-module _ (r t : List ℕ) (k : OfKind 3 r) (d : RegisterShiftFields) (b : t ≡ first_6 r) (h : RegisterShift d ≡ register_shift_from t) where
+module _ (r t : List ℕ) (k : OfKind 3 r) (d : RegisterShiftFields) (b : t ≡ first 6 r) (h : RegisterShift d ≡ register_shift_from t) where
   pub register_shift_is : record_of r ≡ RegisterShift d
   unfolding register_shift_from
   register_shift_is = read_as 3 r k ∙ sym (rw b at h)
@@ -94,7 +94,7 @@ module _ (r t : List ℕ) (k : OfKind 3 r) (d : RegisterShiftFields) (b : t ≡ 
       three_after true d.rd d.rn d.rs (both_true (register d.rd && register d.rn && register d.rs) (turns d.shift) (formed_as 3 r k (RegisterShift d) register_shift_is)).0
 
 -- ---- 04
-module _ (r t : List ℕ) (k : OfKind 4 r) (d : AddNumberFields) (b : t ≡ first_7 r) (h : AddNumber d ≡ add_number_from t) where
+module _ (r t : List ℕ) (k : OfKind 4 r) (d : AddNumberFields) (b : t ≡ first 7 r) (h : AddNumber d ≡ add_number_from t) where
   pub add_number_is : record_of r ≡ AddNumber d
   unfolding add_number_from little
   add_number_is = read_as 4 r k ∙ sym (rw b at h)
@@ -106,7 +106,7 @@ module _ (r t : List ℕ) (k : OfKind 4 r) (d : AddNumberFields) (b : t ≡ firs
       two_after b d.rd d.rn (both_true (b && register d.rd && register d.rn) (leb d.number 4095) (formed_as 4 r k (AddNumber d) add_number_is)).0
 
 -- ---- 05
-module _ (r t : List ℕ) (k : OfKind 5 r) (d : MoveNumberFields) (b : t ≡ first_6 r) (h : MoveNumber d ≡ move_number_from t) where
+module _ (r t : List ℕ) (k : OfKind 5 r) (d : MoveNumberFields) (b : t ≡ first 6 r) (h : MoveNumber d ≡ move_number_from t) where
   pub move_number_is : record_of r ≡ MoveNumber d
   unfolding move_number_from little
   move_number_is = read_as 5 r k ∙ sym (rw b at h)
@@ -116,7 +116,7 @@ module _ (r t : List ℕ) (k : OfKind 5 r) (d : MoveNumberFields) (b : t ≡ fir
   move_number_below = one_after (not d.form.s) d.rd (formed_as 5 r k (MoveNumber d) move_number_is)
 
 -- ---- 06
-module _ (r t : List ℕ) (k : OfKind 6 r) (d : UnaryFields) (b : t ≡ first_5 r) (h : Unary d ≡ unary_from t) where
+module _ (r t : List ℕ) (k : OfKind 6 r) (d : UnaryFields) (b : t ≡ first 5 r) (h : Unary d ≡ unary_from t) where
   pub unary_is : record_of r ≡ Unary d
   unfolding unary_from
   unary_is = read_as 6 r k ∙ sym (rw b at h)
@@ -126,7 +126,7 @@ module _ (r t : List ℕ) (k : OfKind 6 r) (d : UnaryFields) (b : t ≡ first_5 
   unary_below = two_after (not d.form.s) d.rd d.rm (formed_as 6 r k (Unary d) unary_is)
 
 -- ---- 07
-module _ (r t : List ℕ) (k : OfKind 7 r) (d : MultiplyFields) (b : t ≡ first_7 r) (h : Multiply d ≡ multiply_from t) where
+module _ (r t : List ℕ) (k : OfKind 7 r) (d : MultiplyFields) (b : t ≡ first 7 r) (h : Multiply d ≡ multiply_from t) where
   pub multiply_is : record_of r ≡ Multiply d
   unfolding multiply_from
   multiply_is = read_as 7 r k ∙ sym (rw b at h)
@@ -138,7 +138,7 @@ module _ (r t : List ℕ) (k : OfKind 7 r) (d : MultiplyFields) (b : t ≡ first
       four_after true d.rd d.rn d.rm d.ra (both_true all (multiply_accumulates d.op d.form.s d.ra) (formed_as 7 r k (Multiply d) multiply_is)).0
 
 -- ---- 08
-module _ (r t : List ℕ) (k : OfKind 8 r) (d : LongMultiplyFields) (b : t ≡ first_7 r) (h : LongMultiply d ≡ long_multiply_from t) where
+module _ (r t : List ℕ) (k : OfKind 8 r) (d : LongMultiplyFields) (b : t ≡ first 7 r) (h : LongMultiply d ≡ long_multiply_from t) where
   pub long_multiply_is : record_of r ≡ LongMultiply d
   unfolding long_multiply_from
   long_multiply_is = read_as 8 r k ∙ sym (rw b at h)
@@ -149,7 +149,7 @@ module _ (r t : List ℕ) (k : OfKind 8 r) (d : LongMultiplyFields) (b : t ≡ f
       four_after (not d.form.s) d.low d.high d.rn d.rm (formed_as 8 r k (LongMultiply d) long_multiply_is)
 
 -- ---- 09
-module _ (r t : List ℕ) (k : OfKind 9 r) (d : DivideFields) (b : t ≡ first_6 r) (h : Divide d ≡ divide_from t) where
+module _ (r t : List ℕ) (k : OfKind 9 r) (d : DivideFields) (b : t ≡ first 6 r) (h : Divide d ≡ divide_from t) where
   pub divide_is : record_of r ≡ Divide d
   unfolding divide_from
   divide_is = read_as 9 r k ∙ sym (rw b at h)
@@ -159,7 +159,7 @@ module _ (r t : List ℕ) (k : OfKind 9 r) (d : DivideFields) (b : t ≡ first_6
   divide_below = three_after (not d.form.s) d.rd d.rn d.rm (formed_as 9 r k (Divide d) divide_is)
 
 -- ---- 0A
-module _ (r t : List ℕ) (k : OfKind 10 r) (d : SaturateFields) (b : t ≡ first_8 r) (h : Saturate d ≡ saturate_from t) where
+module _ (r t : List ℕ) (k : OfKind 10 r) (d : SaturateFields) (b : t ≡ first 8 r) (h : Saturate d ≡ saturate_from t) where
   pub saturate_is : record_of r ≡ Saturate d
   unfolding saturate_from
   saturate_is = read_as 10 r k ∙ sym (rw b at h)
@@ -172,7 +172,7 @@ module _ (r t : List ℕ) (k : OfKind 10 r) (d : SaturateFields) (b : t ≡ firs
       two_after (not d.form.s) d.rd d.rm (both_true b (saturated_bits d.op d.bits) p.0).0
 
 -- ---- 0B
-module _ (r t : List ℕ) (k : OfKind 11 r) (d : BitFieldFields) (b : t ≡ first_7 r) (h : BitField d ≡ bit_field_from t) where
+module _ (r t : List ℕ) (k : OfKind 11 r) (d : BitFieldFields) (b : t ≡ first 7 r) (h : BitField d ≡ bit_field_from t) where
   pub bit_field_is : record_of r ≡ BitField d
   unfolding bit_field_from
   bit_field_is = read_as 11 r k ∙ sym (rw b at h)
@@ -186,7 +186,7 @@ module _ (r t : List ℕ) (k : OfKind 11 r) (d : BitFieldFields) (b : t ≡ firs
       two_after (not d.form.s) d.rd d.rn (both_true b (leb 1 d.width) q.0).0
 
 -- ---- 0C
-module _ (r t : List ℕ) (k : OfKind 12 r) (d : ExtendFields) (b : t ≡ first_6 r) (h : Extend d ≡ extend_from t) where
+module _ (r t : List ℕ) (k : OfKind 12 r) (d : ExtendFields) (b : t ≡ first 6 r) (h : Extend d ≡ extend_from t) where
   pub extend_is : record_of r ≡ Extend d
   unfolding extend_from
   extend_is = read_as 12 r k ∙ sym (rw b at h)

@@ -3,6 +3,9 @@ use Prim.Native.Nat.{ℕ, ◌<◌}
 use mathlib.Core.Bool.{Bool, true, false}
 use mathlib.Core.List.{List, [], ◌∷◌}
 use mathlib.Core.Path.{◌≡◌, refl, ap}
+use Rattle.std.specs.Prelude.{Result, Ok, Err, IsErrAnd}
+use Rattle.refusal.specs.declared.Refusal.{Refusal}
+use Rattle.refusal.specs.Refusal.{number_of}
 use lib.Dec.{ltb}
 use lib.ListN.{length}
 use native.Mathlib.Omega.{arith}
@@ -22,12 +25,11 @@ use Rattle.operate.specs.declared.Saturation.{Saturation}
 use Rattle.operate.specs.Operate.{shifter, operated, multiplied, multiplied_long, saturated}
 use Rattle.setup.specs.declared.Setup.{Setup}
 use Rattle.machine.specs.declared.Machine.{Machine}
-use Rattle.machine.specs.declared.Stepped.{Stepped}
 use Rattle.machine.specs.Machine.{PC, held, operand_value, written, with_flags, settled, keeping}
 use Rattle.machine.specs.Compute.{data_done, flagged, resulting, multiply_effect, long_multiply_effect, saturate_effect}
 use Rattle.machine.specs.Step.{effect}
-use Rattle.lent.specs.Lent.{assembled, put_in, operand_in, Settled, Obeys}
-use Rattle.lent.proofs.Laws.{settled_fine, settled_back}
+use Rattle.lent.specs.Lent.{assembled, put_in, operand_in, Settled, ObeysOn, ObeysMarking}
+use Rattle.lent.proofs.Laws.{settled_so, settled_fine, settled_back}
 use Rattle.data_arms.specs.declared.Operands.{Operands}
 use Rattle.data_arms.specs.Data.{Operates, Prepared}
 
@@ -44,14 +46,19 @@ Does e f n g ahead r =
     → effect (assembled e f w) (assembled (put_in e PC ahead) f v) (record_of r) bytes setup
     ≡ keeping (settled (assembled e f w) (assembled n g v)) bytes
 
-module _ (e n x : List ℕ) (fine : Bool) (s : Settled e n x fine) (f g : Flags) (ahead : ℕ) (r : List ℕ) (does : Does e f n g ahead r) where
-  pub obeys_fine : (h : Flags) → h ≡ g → fine ≡ true → (bytes : List ℕ) (setup : Setup) → Obeys 0 x h bytes e f ahead r bytes setup
-  obeys_fine h marks t bytes setup w v =
-      rw (does bytes setup w v, marks) (ap (λ (k : Stepped). keeping k bytes) (settled_fine e n x fine s f g t w v))
+module _ (e n x : List ℕ) (a : Result Unit Refusal) (s : Settled e n x a) (ahead : ℕ) (r : List ℕ) where
+  -- at flags that stay
+  pub obeys_so : ((f : Flags) → Does e f n f ahead r) → ObeysOn (number_of a) x e ahead r
+  obeys_so does f bytes setup w v = rw (does f bytes setup w v) (ap (λ k. keeping k bytes) (settled_so e n x a s f w v))
 
-  pub obeys_back : fine ≡ false → (bytes : List ℕ) (setup : Setup) → Obeys 7 x f bytes e f ahead r bytes setup
-  obeys_back t bytes setup w v =
-      rw (does bytes setup w v) (ap (λ (k : Stepped). keeping k bytes) (settled_back e n x fine s f g t w v))
+  module _ (f g : Flags) (does : Does e f n g ahead r) where
+    pub obeys_fine : (u : Unit) → a ≡ Ok u → (h : Flags) → h ≡ g → ObeysMarking 0 x h e f ahead r
+    obeys_fine u t h marks bytes setup w v =
+        rw (does bytes setup w v, marks) (ap (λ k. keeping k bytes) (settled_fine e n x a s u t f g w v))
+
+    pub obeys_back : (k : Refusal) → a ≡ Err k → (q : Result Unit Refusal) → IsErrAnd q (λ e. e ≡ k) → ObeysMarking (number_of q) x f e f ahead r
+    obeys_back k t q on bytes setup w v =
+        rw (does bytes setup w v) (ap (λ k. keeping k bytes) (settled_back e n x a s k t q on f g w v))
 
 -- ---- parts
 marked_parts : (x : List ℕ) (f : Flags) (v : Waiting) (puts s : Bool) (rd value : ℕ) (result : Sum)

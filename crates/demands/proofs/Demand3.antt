@@ -1,4 +1,5 @@
 -- Demand 3, by the one case principle over the rounds.
+use Rattle.std.specs.Prelude.{Option}
 use Prim.Native.Nat.{ℕ, ◌≤◌}
 use mathlib.Core.Bool.{true, true≢false, ◌&&◌}
 use mathlib.Core.List.{List, [], ◌∷◌}
@@ -15,10 +16,10 @@ use Rattle.setup.specs.Setup.{fits}
 use Rattle.layout.specs.declared.Point.{Point}
 use Rattle.layout.specs.Layout.{AtAddress, Stands, End, Stray, start, at_address}
 use Rattle.layout.proofs.Members.{start_on}
-use Rattle.listing.specs.declared.Checked.{Checked}
 use Rattle.listing.proofs.Accepted.{Accepted}
+use Rattle.listing.specs.Check.{Checked}
 use Rattle.machine.specs.Machine.{PC, held, good}
-use Rattle.run.specs.declared.Stored.{Stored}
+use Rattle.reading.specs.declared.Place.{Place}
 use Rattle.run.specs.Run.{Rehearsal, State, Passage, Course, agreeing, faced, over, led_by, rounds, run_of}
 use Rattle.run.specs.Code.{Fit}
 use Rattle.run.proofs.Steps.{next_state, result, next_fit}
@@ -103,7 +104,7 @@ demand_3_fresh = demand_3
 
 -- ---- a resume
 -- at a record or the end, with what the layout gives waiting
-not_astray : (h : Rehearsal) (s : State) (stored : Stored) → Restart h s stored → faced h s.machine ≡ Stray → ⊥
+not_astray : (h : Rehearsal) (s : State) (stored : Option Place) → Restart h s stored → faced h s.machine ≡ Stray → ⊥
 unfolding faced agreeing walks_place place_in
 not_astray h s stored b = go (at_address h.listing h.base (held s.machine PC)) refl
   where

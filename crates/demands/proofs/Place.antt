@@ -1,4 +1,5 @@
 -- The stored place of a running machine.
+use Rattle.std.specs.Prelude.{Option, Some, None}
 use Prim.Native.Nat.{ℕ, zero, suc, ◌+◌}
 use mathlib.Core.Bool.{Bool, true, ◌&&◌}
 use mathlib.Core.List.{List, [], ◌++◌}
@@ -18,8 +19,7 @@ use Rattle.listing.proofs.Accepted.{Accepted}
 use Rattle.machine.specs.declared.Machine.{Machine}
 use Rattle.machine.specs.Machine.{PC, held, good}
 use Rattle.paper.proofs.Demands.{step_number}
-use Rattle.run.specs.declared.Stored.{Stored}
-use Rattle.run.specs.declared.Stored.TheVariants.{In, None}
+use Rattle.reading.specs.declared.Place.{Place}
 use Rattle.run.specs.Run.{Rehearsal, State, Passage, Course, faced, over, led_by, rounds, run_of}
 use Rattle.run.specs.Code.{Fit}
 use Rattle.run.proofs.Steps.{next_state, next_fit}
@@ -33,9 +33,9 @@ use Rattle.demands.proofs.Run.{begun_run}
 pub one_halting : OneHalting
 one_halting budget h s stored = (one_outcome (halt (fresh_run budget h s)), one_outcome (halt (resumed budget h s stored)))
 
-same_place_self : (x : Stored) → same_place x x ≡ true
+same_place_self : (x : Option Place) → same_place x x ≡ true
 unfolding same_place
-same_place_self (In p) = eq-eqb p.0 p.0 refl
+same_place_self (Some p) = eq-eqb p.0 p.0 refl
 same_place_self None = refl
 
 -- ---- a run that begins
@@ -62,17 +62,17 @@ module _ (h : Rehearsal) (s : State) where
     unfolding fresh_run
     fresh_is budget = rw (began, is_rounds budget)
 
-    resumed_is : (budget : ℕ) (stored : Stored) → stored ≡ walks_place h s.machine
+    resumed_is : (budget : ℕ) (stored : Option Place) → stored ≡ walks_place h s.machine
         → resumed budget h s stored ≡ (let c = rounds budget h s in journey c (walks_place h c.last.machine))
     unfolding resumed
     resumed_is budget stored e = rw (began, e, same_place_self (walks_place h s.machine), is_rounds budget)
 
-pub resumed_run : (budget : ℕ) (h : Rehearsal) (s : State) (stored : Stored) → begins h s ≡ true → stored ≡ walks_place h s.machine
+pub resumed_run : (budget : ℕ) (h : Rehearsal) (s : State) (stored : Option Place) → begins h s ≡ true → stored ≡ walks_place h s.machine
     → (resumed budget h s stored).course ≡ run_of budget h s
 resumed_run budget h s stored began e = ap (λ (j : Journey). j.course) (resumed_is h s began budget stored e) ∙ sym (is_rounds h s began budget)
 
 -- ---- before every step
-record_place : (h : Rehearsal) (m : Machine) (r : Record) (p : Point) → AtRecord h m r p → walks_place h m ≡ In p.place
+record_place : (h : Rehearsal) (m : Machine) (r : Record) (p : Point) → AtRecord h m r p → walks_place h m ≡ Some p.place
 unfolding walks_place place_in
 record_place h m r p a = rw a.stands
 

@@ -12,8 +12,7 @@ use Rattle.word.proofs.Cases.{cases, yes_or_no}
 use Rattle.word.proofs.Sole.{one_outcome}
 use Rattle.reading.specs.Reading.{part}
 use Rattle.setup.specs.Setup.{fits}
-use Rattle.listing.specs.declared.Checked.{Checked}
-use Rattle.listing.specs.Check.{checked}
+use Rattle.listing.specs.Check.{Checked, checked}
 use Rattle.machine.specs.Machine.{good}
 use Rattle.paper.proofs.Demands.{step_number}
 use Rattle.run.specs.Run.{Rehearsal, State, Passage, Course, faced, over, used_up, rounds, run_of, outcome}

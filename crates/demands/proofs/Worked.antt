@@ -1,4 +1,5 @@
 -- The runs of the table compute.
+use Rattle.std.specs.Prelude.{Some}
 use Prim.Native.Nat.{ℕ}
 use mathlib.Core.Path.{◌≡◌, refl, ap}
 use native.Mathlib.Omega.{arith}
@@ -18,7 +19,6 @@ use Rattle.machine.specs.Machine.{held, operand_value, kept, written, with_waiti
 use Rattle.machine.specs.Branch.{linking, register_branch_effect}
 use Rattle.machine.specs.Step.{effect, obeyed, considered, stepped}
 use Rattle.run.specs.Run.{agreeing, faced, attempted, round_at, round, used_up, rounds, run_of}
-use Rattle.run.specs.declared.Stored.TheVariants.{In}
 use Rattle.run.specs.Place.{place_in, walks_place, same_place, begins, resumed}
 use Rattle.run.specs.Code.{due_at}
 use Rattle.demands.specs.Demand3.{Start, Restart}
@@ -49,7 +49,7 @@ worked_resumes = (
   ((any 0x2000, refl, refl, refl, refl), ((any 0x2001, refl, refl, refl, refl), ((any 0x1001, refl, refl, refl, refl), tt))),
 )
   where
-    any : (r0 : ℕ) → Restart shown (with_R15 r0 0x1002) (In (record { 0 = 2 }))
+    any : (r0 : ℕ) → Restart shown (with_R15 r0 0x1002) (Some (record { 0 = 2 }))
     any r0 = record {
       accepted = refl;
       memory_fits = refl;

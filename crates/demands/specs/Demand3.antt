@@ -1,7 +1,7 @@
 -- Demand 3: "For a listing that the check accepts, memory within limits and a good machine at the first record with nothing waiting: for
 -- any registers, flags, memory bytes and budget the run never ends with 1 to 4; before every step the waiting conditions are those
 -- that the layout gives; it ends with 8 only directly after a step that took its next address from a register or from memory."
-use Rattle.std.specs.Prelude.{ℕ, ◌≤◌, true, false, List, [], ◌∷◌, ◌≡◌, eqb, length}
+use Rattle.std.specs.Prelude.{ℕ, ◌≤◌, true, false, List, [], ◌∷◌, ◌≡◌, eqb, length, Option, None}
 use Rattle.std.specs.Bool.{if◌then◌else◌}
 use Rattle.waiting.specs.Waiting.{nothing}
 use Rattle.record.specs.declared.Record.{Record}
@@ -12,8 +12,7 @@ use Rattle.layout.specs.declared.Point.{Point}
 use Rattle.layout.specs.Layout.{Stands, End, start, meets, filled, at_address}
 use Rattle.listing.specs.Check.{checked}
 use Rattle.machine.specs.Machine.{PC, held, good, condition_passes}
-use Rattle.run.specs.declared.Stored.{Stored}
-use Rattle.run.specs.declared.Stored.TheVariants.{None}
+use Rattle.reading.specs.declared.Place.{Place}
 use Rattle.run.specs.Run.{Rehearsal, State, Passage, Course, run_of}
 use Rattle.run.specs.Place.{walks_place, fresh_run, resumed}
 use Rattle.demands.specs.Run.{AtRecord, Every}
@@ -68,7 +67,7 @@ Demand3 = (budget : ℕ) (h : Rehearsal) (s : State) → Start h s → Sound h (
 
 -- Order 6: "or, in place of its start, a resume of a good machine whose stored place agrees and isn't "none", with those conditions
 -- waiting that the layout gives there"
-pub record Restart (h : Rehearsal) (s : State) (stored : Stored) : Type 0 where
+pub record Restart (h : Rehearsal) (s : State) (stored : Option Place) : Type 0 where
   pub accepted : (checked h.listing h.base).number ≡ 0
   pub memory_fits : fits h.setup s.memory ≡ true
   pub machine_good : good s.machine ≡ true
@@ -81,7 +80,7 @@ pub record Restart (h : Rehearsal) (s : State) (stored : Stored) : Type 0 where
 
 abbrev pub Demand3Resumed : Type 0
 Demand3Resumed =
-    (budget : ℕ) (h : Rehearsal) (s : State) (stored : Stored) → Restart h s stored → Sound h (resumed budget h s stored).course
+    (budget : ℕ) (h : Rehearsal) (s : State) (stored : Option Place) → Restart h s stored → Sound h (resumed budget h s stored).course
 
 -- a fresh run is the run that demand 3 speaks of
 abbrev pub Demand3Fresh : Type 0

@@ -7,8 +7,7 @@ use Rattle.reading.specs.Reading.{part}
 use Rattle.setup.specs.Setup.{fits}
 use Rattle.layout.specs.declared.Point.{Point}
 use Rattle.layout.specs.Layout.{Stands, End, Stray, at_address}
-use Rattle.listing.specs.declared.Checked.{Checked}
-use Rattle.listing.specs.Check.{checked}
+use Rattle.listing.specs.Check.{Checked, checked}
 use Rattle.machine.specs.declared.Machine.{Machine}
 use Rattle.machine.specs.Machine.{PC, held, good}
 use Rattle.machine.specs.Step.{stepped}

@@ -1,18 +1,17 @@
 -- Order 13: "Within a run on an accepted listing the tests for 2, 3 and 4 are made again at each step. .. Take them out of that path. The run
 -- from any other start keeps the layout test of 8 first, so show that they can't fire there either. .. Every end, count and machine stays the same."
-use Rattle.std.specs.Prelude.{ℕ, true, false, ◌≡◌, length}
+use Rattle.std.specs.Prelude.{ℕ, true, false, ◌≡◌, Some, length, Option}
 use Rattle.waiting.specs.Waiting.{waiting_count}
 use Rattle.record.specs.declared.Record.{Record}
 use Rattle.restricted.specs.Restricted.{allowed}
 use Rattle.flow.specs.Flow.{misplaced}
-use Rattle.reading.specs.declared.Read.TheVariants.{Is}
 use Rattle.reading.specs.Reading.{part, read_one}
 use Rattle.setup.specs.Setup.{fits}
 use Rattle.layout.specs.declared.Point.{Point}
 use Rattle.layout.specs.Layout.{Stands}
 use Rattle.machine.specs.Machine.{good}
 use Rattle.machine.specs.Step.{obeyed, stepped}
-use Rattle.run.specs.declared.Stored.{Stored}
+use Rattle.reading.specs.declared.Place.{Place}
 use Rattle.run.specs.Run.{Rehearsal, State, Course, faced, run_of}
 use Rattle.run.specs.Place.{walks_place, begins, resumed}
 use Rattle.demands.specs.Run.{Every}
@@ -24,7 +23,7 @@ pub record TestsPass (h : Rehearsal) (s : State) (r : Record) (p : Point) : Type
   pub machine : good s.machine ≡ true
   pub memory : fits h.setup s.memory ≡ true
   -- 2: the bytes at the record's place are that record
-  pub read : read_one (part h.listing p.place.0) ≡ Is r
+  pub read : read_one (part h.listing p.place.0) ≡ Some r
   -- 3: "restricted form"
   pub form : allowed r ≡ true
   -- 4: "wrong spot in a block", with the machine's own list
@@ -47,5 +46,5 @@ TestsCantFire =
 -- "for .. resume": from a stored place that agrees
 abbrev pub TestsCantFireResumed : Type 0
 TestsCantFireResumed =
-    (budget : ℕ) (h : Rehearsal) (s : State) (stored : Stored) → begins h s ≡ true → length s.machine.registers ≡ 16
+    (budget : ℕ) (h : Rehearsal) (s : State) (stored : Option Place) → begins h s ≡ true → length s.machine.registers ≡ 16
     → stored ≡ walks_place h s.machine → NoTestFires h (resumed budget h s stored).course

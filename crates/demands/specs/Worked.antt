@@ -1,10 +1,9 @@
 -- Runs of two records, NOP and BLX R0, from 0x1000 on: demand 3 speaks of each of them, and they end in all four ways that it leaves.
-use Rattle.std.specs.Prelude.{ℕ, List, [], ◌∷◌, ◌≡◌, length}
+use Rattle.std.specs.Prelude.{ℕ, List, [], ◌∷◌, ◌≡◌, length, Option, Some, None}
 use Rattle.setup.specs.Setup.{at_base}
 use Rattle.flags.specs.Flags.{clear}
 use Rattle.waiting.specs.Waiting.{nothing}
-use Rattle.run.specs.declared.Stored.{Stored}
-use Rattle.run.specs.declared.Stored.TheVariants.{In, None}
+use Rattle.reading.specs.declared.Place.{Place}
 use Rattle.run.specs.Run.{Rehearsal, State, run_of}
 use Rattle.run.specs.Place.{resumed}
 use Rattle.demands.specs.Demand3.{Start, Restart}
@@ -57,21 +56,21 @@ pub record ResumeRow : Type 0 where
   pub number : ℕ
   pub place : ℕ
   pub count : ℕ
-  pub stored : Stored
+  pub stored : Option Place
 
 abbrev pub resume_table : List ResumeRow
 resume_table =
-    record { r0 = 0x1005; number = 0; place = 0; count = 1; stored = In (record { 0 = 6 }) }  -- the length
-    ∷ record { r0 = 0x2000; number = 7; place = 2; count = 0; stored = In (record { 0 = 2 }) }  -- BLX still
+    record { r0 = 0x1005; number = 0; place = 0; count = 1; stored = Some (record { 0 = 6 }) }  -- the length
+    ∷ record { r0 = 0x2000; number = 7; place = 2; count = 0; stored = Some (record { 0 = 2 }) }  -- BLX still
     ∷ record { r0 = 0x2001; number = 8; place = 0; count = 1; stored = None }
-    ∷ record { r0 = 0x1001; number = 10; place = 0; count = 5; stored = In (record { 0 = 0 }) }  -- NOP is next
+    ∷ record { r0 = 0x1001; number = 10; place = 0; count = 5; stored = Some (record { 0 = 0 }) }  -- NOP is next
     ∷ []
 
 abbrev pub ShowsResumed : ResumeRow → Type 0
 ShowsResumed row =
     let s = with_R15 row.r0 0x1002 in
-    let j = resumed 5 shown s (In (record { 0 = 2 })) in
-    Restart shown s (In (record { 0 = 2 }))
+    let j = resumed 5 shown s (Some (record { 0 = 2 })) in
+    Restart shown s (Some (record { 0 = 2 }))
     × (j.course.number ≡ row.number) × (j.course.place ≡ row.place) × (length j.course.steps ≡ row.count) × (j.stored ≡ row.stored)
 
 abbrev pub ResumesWorked : List ResumeRow → Type 0

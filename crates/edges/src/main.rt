@@ -6,102 +6,81 @@ mod lines;
 mod values;
 mod write;
 
+use lines::{fields, long, long_sums, pairs, saturated, shifts, sums, triples, words};
+use values::{ROTATIONS, SIGNED_BITS, UNSIGNED_BITS, WORDS};
+
 fn main(rt: HostRuntime) {
-    each(&rt, 0, 0, 72);
-    each(&rt, 0, 1, 72);
+    sums(&rt, b"SUM", sum::add_with_carry);
+    sums(&rt, b"DIFF", sum::subtract_with_carry);
     logic(&rt);
-    shifts(&rt);
-    each(&rt, 5, 0, 42);
-    words(&rt);
+    shifted(&rt);
+    lines::constants(&rt);
+    reversed(&rt);
     products(&rt);
-    each(&rt, 9, 0, 36);
-    each(&rt, 9, 1, 36);
-    each(&rt, 10, 0, 24);
-    each(&rt, 11, 0, 24);
-    fields(&rt);
+    pairs(&rt, b"UDIV", &WORDS, quotient::udiv);
+    pairs(&rt, b"SDIV", &WORDS, quotient::sdiv);
+    saturated(&rt, b"SSAT", &SIGNED_BITS, saturate::ssat);
+    saturated(&rt, b"USAT", &UNSIGNED_BITS, saturate::usat);
+    parts(&rt);
     addresses(&rt);
 }
 
 fn logic(out: &impl Print) {
-    each(out, 1, 0, 36);
-    each(out, 1, 1, 36);
-    each(out, 1, 2, 36);
-    each(out, 1, 3, 36);
-    each(out, 1, 4, 36);
-    each(out, 2, 0, 6);
+    pairs(out, b"AND", &WORDS, logic::and);
+    pairs(out, b"ORR", &WORDS, logic::orr);
+    pairs(out, b"EOR", &WORDS, logic::eor);
+    pairs(out, b"BIC", &WORDS, logic::bic);
+    pairs(out, b"ORN", &WORDS, logic::orn);
+    words(out, b"MVN", logic::mvn);
 }
 
-fn shifts(out: &impl Print) {
-    each(out, 3, 0, 108);
-    each(out, 3, 1, 108);
-    each(out, 3, 2, 108);
-    each(out, 3, 3, 108);
-    each(out, 4, 0, 12);
+fn shifted(out: &impl Print) {
+    shifts(out, b"LSL", shift::lsl);
+    shifts(out, b"LSR", shift::lsr);
+    shifts(out, b"ASR", shift::asr);
+    shifts(out, b"ROR", shift::ror);
+    lines::rrx(out);
 }
 
-fn words(out: &impl Print) {
-    each(out, 2, 1, 6);
-    each(out, 2, 2, 6);
-    each(out, 2, 3, 6);
-    each(out, 2, 4, 6);
-    each(out, 2, 5, 6);
+fn reversed(out: &impl Print) {
+    words(out, b"CLZ", reverse::clz);
+    words(out, b"REV", reverse::rev);
+    words(out, b"REV16", reverse::rev16);
+    words(out, b"REVSH", reverse::revsh);
+    words(out, b"RBIT", reverse::rbit);
 }
 
 fn products(out: &impl Print) {
-    each(out, 1, 5, 36);
-    each(out, 6, 0, 216);
-    each(out, 6, 1, 216);
-    each(out, 7, 0, 36);
-    each(out, 7, 1, 36);
-    each(out, 8, 0, 144);
-    each(out, 8, 1, 144);
+    pairs(out, b"MUL", &WORDS, product::mul);
+    triples(out, b"MLA", product::mla);
+    triples(out, b"MLS", product::mls);
+    long(out, b"UMULL", product::umull);
+    long(out, b"SMULL", product::smull);
+    long_sums(out, b"UMLAL", product::umlal);
+    long_sums(out, b"SMLAL", product::smlal);
 }
 
-fn fields(out: &impl Print) {
-    each(out, 12, 0, 36);
-    each(out, 12, 1, 36);
-    each(out, 12, 2, 36);
-    each(out, 13, 0, 216);
-    each(out, 14, 0, 24);
-    each(out, 14, 1, 24);
-    each(out, 14, 2, 24);
-    each(out, 14, 3, 24);
+fn parts(out: &impl Print) {
+    fields(out, b"BFC", field::bfc);
+    fields(out, b"SBFX", field::sbfx);
+    fields(out, b"UBFX", field::ubfx);
+    lines::inserted(out);
+    pairs(out, b"SXTB", &ROTATIONS, field::sxtb);
+    pairs(out, b"SXTH", &ROTATIONS, field::sxth);
+    pairs(out, b"UXTB", &ROTATIONS, field::uxtb);
+    pairs(out, b"UXTH", &ROTATIONS, field::uxth);
 }
 
 fn addresses(out: &impl Print) {
-    each(out, 2, 6, 6);
-    each(out, 2, 7, 6);
-    each(out, 2, 8, 6);
-    each(out, 1, 6, 36);
-    each(out, 15, 0, 5);
-    each(out, 16, 0, 20);
-}
-
-// Every line of one operation: k counts its operands, the last changing fastest.
-fn each(out: &impl Print, group: u32, op: u32, count: u32) {
-    for k in 0..count {
-        line(out, group, op, k);
-    }
-}
-
-fn line(out: &impl Print, group: u32, op: u32, k: u32) {
-    match group {
-        0 => lines::sums(out, op, k),
-        1 => lines::pairs(out, op, k),
-        2 => lines::words(out, op, k),
-        3 => lines::shifts(out, op, k),
-        4 => lines::rrx(out, k),
-        5 => lines::constants(out, k),
-        6 => lines::accumulated(out, op, k),
-        7 => lines::long(out, op, k),
-        8 => lines::long_accumulated(out, op, k),
-        9 => lines::quotients(out, op, k),
-        10 => lines::ssat(out, k),
-        11 => lines::usat(out, k),
-        12 => lines::fields(out, op, k),
-        13 => lines::inserted(out, k),
-        14 => lines::extended(out, op, k),
-        15 => lines::count(out, k),
-        _ => lines::holds(out, k),
-    }
+    words(out, b"EVEN", address::even);
+    words(out, b"LINK", address::link);
+    words(out, b"BASE", address::word_base);
+    pairs(
+        out,
+        b"MOVED",
+        &WORDS,
+        |x, by| address::offset_by(x, word::signed_of(by)),
+    );
+    lines::counts(out);
+    lines::members(out);
 }

@@ -1,123 +1,62 @@
-// The edge values of docs/EDGES.md, by their number.
+// The edge values of docs/EDGES.md.
 
-pub fn word(i: u32) -> u32 {
-    match i {
-        0 => 0,
-        1 => 1,
-        2 => 0x7fff_ffff,
-        3 => 0x8000_0000,
-        4 => 0xffff_ffff,
-        _ => 0xa5c3_0f96,
-    }
-}
+use product::Long;
 
-pub fn amount(i: u32) -> u32 {
-    match i {
-        0 => 0,
-        1 => 1,
-        2 => 31,
-        3 => 32,
-        4 => 33,
-        5 => 64,
-        6 => 255,
-        7 => 256,
-        _ => 0xffff_ffff,
-    }
-}
+pub const WORDS: [u32; 6] = [0, 1, 0x7fff_ffff, 0x8000_0000, 0xffff_ffff, 0xa5c3_0f96];
 
-pub fn constant(i: u32) -> u32 {
-    match i {
-        6 => 0xff,
-        7 => 0x100,
-        8 => 0x1fe,
-        9 => 0x1ff,
-        10 => 0x3fc0,
-        11 => 0xff00,
-        12 => 0x1_fe00,
-        13 => 0xff_0000,
-        14 => 0x7f80_0000,
-        15 => 0xff00_0000,
-        16 => 0x00ab_00ab,
-        17 => 0xab00_ab00,
-        18 => 0xabab_abab,
-        19 => 0x00ab_00ac,
-        20 => 0xf000_000f,
-        _ => word(i),
-    }
-}
+pub const AMOUNTS: [u32; 9] = [0, 1, 31, 32, 33, 64, 255, 256, 0xffff_ffff];
 
-pub fn lsb(i: u32) -> u32 {
-    match i {
-        0 => 0,
-        1 => 0,
-        2 => 1,
-        3 => 8,
-        4 => 16,
-        _ => 31,
-    }
-}
+pub const TRUTHS: [bool; 2] = [false, true];
 
-pub fn width(i: u32) -> u32 {
-    match i {
-        0 => 1,
-        1 => 32,
-        2 => 31,
-        3 => 12,
-        4 => 16,
-        _ => 1,
-    }
-}
+pub const CONSTANTS: [u32; 21] = [
+    0,
+    1,
+    0x7fff_ffff,
+    0x8000_0000,
+    0xffff_ffff,
+    0xa5c3_0f96,
+    0xff,
+    0x100,
+    0x1fe,
+    0x1ff,
+    0x3fc0,
+    0xff00,
+    0x1_fe00,
+    0xff_0000,
+    0x7f80_0000,
+    0xff00_0000,
+    0x00ab_00ab,
+    0xab00_ab00,
+    0xabab_abab,
+    0x00ab_00ac,
+    0xf000_000f,
+];
 
-pub fn list(i: u32) -> u16 {
-    match i {
-        0 => 0,
-        1 => 1,
-        2 => 0x8000,
-        3 => 0xffff,
-        _ => 0xa5c3,
-    }
-}
+// The lowest bit of a field, and its width.
+pub const FIELDS: [(u32, u32); 6] = [(0, 1), (0, 32), (1, 31), (8, 12), (16, 16), (31, 1)];
 
-pub fn register(i: u32) -> u32 {
-    match i {
-        0 => 0,
-        1 => 1,
-        2 => 7,
-        _ => 15,
-    }
-}
+pub const ROTATIONS: [u32; 4] = [0, 8, 16, 24];
 
-pub fn low(i: u32) -> u32 {
-    match i {
-        0 => 0,
-        1 => 1,
-        _ => 0xffff_ffff,
-    }
-}
+pub const LISTS: [u16; 5] = [0, 1, 0x8000, 0xffff, 0xa5c3];
 
-pub fn high(i: u32) -> u32 {
-    match i {
-        0 => 0,
-        1 => 0x8000_0000,
-        2 => 0x7fff_ffff,
-        _ => 0xffff_ffff,
-    }
-}
+pub const REGISTERS: [u32; 4] = [0, 1, 7, 15];
 
-pub fn signed_bits(i: u32) -> u32 {
-    match i {
-        0 => 1,
-        1 => 16,
-        2 => 31,
-        _ => 32,
-    }
-}
+pub const SUMS: [Long; 4] = [
+    Long { low: 0, high: 0 },
+    Long {
+        low: 1,
+        high: 0x8000_0000,
+    },
+    Long {
+        low: 0xffff_ffff,
+        high: 0x7fff_ffff,
+    },
+    Long {
+        low: 0xffff_ffff,
+        high: 0xffff_ffff,
+    },
+];
 
-pub fn unsigned_bits(i: u32) -> u32 {
-    match i {
-        0 => 0,
-        1 => 1,
-        2 => 16,
-        _ => 31,
-    }
-}
+pub const SIGNED_BITS: [u32; 4] = [1, 16, 31, 32];
+
+pub const UNSIGNED_BITS: [u32; 4] = [0, 1, 16, 31];

@@ -1,10 +1,30 @@
-// The parts of a line. A write that fails is passed over.
+// A line: a name, the operands, `=`, the results. A write that fails is passed over.
 
-pub fn text(out: &impl Print, bytes: &[u8]) {
-    let _ = out.write_all(bytes);
+#[derive(Clone, Copy)]
+pub enum Item {
+    Word(u32),
+    Truth(bool),
 }
 
-pub fn word(out: &impl Print, x: u32) {
+pub fn line(out: &impl Print, name: &[u8], operands: &[Item], results: &[Item]) {
+    text(out, name);
+    items(out, operands);
+    text(out, b" =");
+    items(out, results);
+    text(out, b"\n");
+}
+
+fn items(out: &impl Print, items: &[Item]) {
+    for item in items {
+        match *item {
+            Item::Word(x) => word(out, x),
+            Item::Truth(true) => text(out, b" 1"),
+            Item::Truth(false) => text(out, b" 0"),
+        }
+    }
+}
+
+fn word(out: &impl Print, x: u32) {
     let bytes = [
         b' ',
         digit(x >> 28),
@@ -19,26 +39,11 @@ pub fn word(out: &impl Print, x: u32) {
     text(out, &bytes);
 }
 
-pub fn truth(out: &impl Print, t: bool) {
-    if t {
-        text(out, b" 1");
-    } else {
-        text(out, b" 0");
-    }
-}
-
-pub fn results(out: &impl Print) {
-    text(out, b" =");
-}
-
-pub fn end(out: &impl Print) {
-    text(out, b"\n");
-}
-
 fn digit(x: u32) -> u8 {
-    let d = x % 16;
-    if d < 10 {
-        return (48 + d) as u8;
-    }
-    (55 + d) as u8
+    let digits = b"0123456789ABCDEF";
+    digits[(x % 16) as usize]
+}
+
+fn text(out: &impl Print, bytes: &[u8]) {
+    let _ = out.write_all(bytes);
 }

@@ -43,6 +43,7 @@ pub fn bfc(d: u32, lsb: u32, width: u32) -> u32
     bfi(d, 0, lsb, width)
 }
 
+// These four are the instructions by name over what they share; one function of a width and a sign would be called with constants at each.
 pub fn sxtb(x: u32, rotation: u32) -> u32
     ensures { result ≡ SXTB x rotation }
 {

@@ -14,28 +14,21 @@ use record::{
 pub fn shifted_register_of(d: ShiftedRegisterFields) -> bool
     ensures { result ≡ shifted_register_formed d }
 {
-    let op = d.op;
-    let form = d.form;
-    let shift = d.shift;
-    data_operands_of(op, form, d.rd, d.rn) & (d.rm < 16) & amount_of(shift, d.amount)
+    data_operands_of(d.op, d.form, d.rd, d.rn) & (d.rm < 16) & amount_of(d.shift, d.amount)
 }
 
 pub fn constant_of(d: ConstantFields) -> bool
     ensures { result ≡ constant_formed d }
 {
-    let op = d.op;
-    let form = d.form;
-    data_operands_of(op, form, d.rd, d.rn) & constant::is_constant(d.constant)
+    data_operands_of(d.op, d.form, d.rd, d.rn) & constant::is_constant(d.constant)
 }
 
 fn data_operands_of(op: DataOp, form: Form, rd: u8, rn: u8) -> bool
     ensures { result ≡ data_operands op form rd rn }
 {
-    let code = record::op::data_code_of(op);
-    (rd < 16)
-        & (rn < 16)
-        & (!((code == 10) | (code == 11)) | (rn == 0))
-        & (!(12 <= code) | (rd == 0) & form.s)
+    let moves = matches!(op, DataOp::Mov | DataOp::Mvn);
+    let compares = matches!(op, DataOp::Cmp | DataOp::Cmn | DataOp::Tst | DataOp::Teq);
+    (rd < 16) & (rn < 16) & (!moves | (rn == 0)) & (!compares | (rd == 0) & form.s)
 }
 
 fn amount_of(shift: Shift, amount: u8) -> bool
@@ -43,8 +36,7 @@ fn amount_of(shift: Shift, amount: u8) -> bool
 {
     match shift {
         Shift::Lsl => amount <= 31,
-        Shift::Lsr => (1 <= amount) & (amount <= 32),
-        Shift::Asr => (1 <= amount) & (amount <= 32),
+        Shift::Lsr | Shift::Asr => (1 <= amount) & (amount <= 32),
         Shift::Ror => (1 <= amount) & (amount <= 31),
         Shift::Rrx => amount == 0,
     }
@@ -53,27 +45,19 @@ fn amount_of(shift: Shift, amount: u8) -> bool
 pub fn register_shift_of(d: RegisterShiftFields) -> bool
     ensures { result ≡ register_shift_formed d }
 {
-    let shift = d.shift;
-    (d.rd < 16) & (d.rn < 16) & (d.rs < 16) & turns_of(shift)
+    (d.rd < 16) & (d.rn < 16) & (d.rs < 16) & turns_of(d.shift)
 }
 
 fn turns_of(shift: Shift) -> bool
     ensures { result ≡ turns shift }
 {
-    match shift {
-        Shift::Lsl => true,
-        Shift::Lsr => true,
-        Shift::Asr => true,
-        Shift::Ror => true,
-        Shift::Rrx => false,
-    }
+    !matches!(shift, Shift::Rrx)
 }
 
 pub fn multiply_of(d: MultiplyFields) -> bool
     ensures { result ≡ multiply_formed d }
 {
-    let op = d.op;
-    (d.rd < 16) & (d.rn < 16) & (d.rm < 16) & (d.ra < 16) & accumulates_of(op, d.form.s, d.ra)
+    (d.rd < 16) & (d.rn < 16) & (d.rm < 16) & (d.ra < 16) & accumulates_of(d.op, d.form.s, d.ra)
 }
 
 fn accumulates_of(op: MultiplyOp, s: bool, ra: u8) -> bool
@@ -81,21 +65,18 @@ fn accumulates_of(op: MultiplyOp, s: bool, ra: u8) -> bool
 {
     match op {
         MultiplyOp::Mul => ra == 0,
-        MultiplyOp::Mla => !s,
-        MultiplyOp::Mls => !s,
+        MultiplyOp::Mla | MultiplyOp::Mls => !s,
     }
 }
 
 pub fn saturate_of(d: SaturateFields) -> bool
     ensures { result ≡ saturate_formed d }
 {
-    let op = d.op;
-    let shift = d.shift;
     !d.form.s
         & (d.rd < 16)
         & (d.rm < 16)
-        & saturated_bits_of(op, d.bits)
-        & saturated_shift_of(shift, d.amount)
+        & saturated_bits_of(d.op, d.bits)
+        & saturated_shift_of(d.shift, d.amount)
 }
 
 fn saturated_bits_of(op: SaturateOp, bits: u8) -> bool
@@ -112,30 +93,27 @@ fn saturated_shift_of(shift: Shift, amount: u8) -> bool
 {
     match shift {
         Shift::Lsl => amount <= 31,
-        Shift::Lsr => false,
         Shift::Asr => (1 <= amount) & (amount <= 31),
-        Shift::Ror => false,
-        Shift::Rrx => false,
+        Shift::Lsr | Shift::Ror | Shift::Rrx => false,
     }
 }
 
 pub fn bit_field_of(d: BitFieldFields) -> bool
     ensures { result ≡ bit_field_formed d }
 {
-    let op = d.op;
     let end = d.lsb as u32 + d.width as u32;
-    !d.form.s & (d.rd < 16) & (d.rn < 16) & (1 <= d.width) & (end <= 32) & field_source_of(op, d.rn)
+    !d.form.s
+        & (d.rd < 16)
+        & (d.rn < 16)
+        & (1 <= d.width)
+        & (end <= 32)
+        & field_source_of(d.op, d.rn)
 }
 
 fn field_source_of(op: FieldOp, rn: u8) -> bool
     ensures { result ≡ field_source op rn }
 {
-    match op {
-        FieldOp::Bfc => rn == 0,
-        FieldOp::Bfi => true,
-        FieldOp::Sbfx => true,
-        FieldOp::Ubfx => true,
-    }
+    !matches!(op, FieldOp::Bfc) | (rn == 0)
 }
 
 pub fn extend_of(d: ExtendFields) -> bool
@@ -151,8 +129,7 @@ pub fn extend_of(d: ExtendFields) -> bool
 pub fn access_of(d: AccessFields) -> bool
     ensures { result ≡ access_formed d }
 {
-    let mode = d.mode;
-    !d.form.s & (d.rt < 16) & (d.rn < 16) & access_offset_of(mode, d.rn, d.offset)
+    !d.form.s & (d.rt < 16) & (d.rn < 16) & access_offset_of(d.mode, d.rn, d.offset)
 }
 
 fn access_offset_of(mode: Mode, rn: u8, offset: i16) -> bool
@@ -160,14 +137,12 @@ fn access_offset_of(mode: Mode, rn: u8, offset: i16) -> bool
 {
     match mode {
         Mode::Offset => {
-            let from_pc = rn == register::PC;
-            if from_pc {
+            if rn == register::PC {
                 return (-4095 <= offset) & (offset <= 4095);
             }
             (-255 <= offset) & (offset <= 4095)
         }
-        Mode::PreIndexed => (-255 <= offset) & (offset <= 255),
-        Mode::PostIndexed => (-255 <= offset) & (offset <= 255),
+        Mode::PreIndexed | Mode::PostIndexed => (-255 <= offset) & (offset <= 255),
     }
 }
 
@@ -186,11 +161,9 @@ fn dual_offset_of(offset: i16) -> bool
 pub fn branch_of(d: BranchFields) -> bool
     ensures { result ≡ branch_formed d }
 {
-    let op = d.op;
-    let offset = d.offset;
     !d.form.s
-        & (word::unsigned_of(offset) & 1 == 0)
-        & reach_of(op, d.form.wide, d.condition, offset)
+        & (word::unsigned_of(d.offset) & 1 == 0)
+        & reach_of(d.op, d.form.wide, d.condition, d.offset)
 }
 
 fn reach_of(op: BranchOp, wide: bool, condition: u8, offset: i32) -> bool
@@ -198,8 +171,7 @@ fn reach_of(op: BranchOp, wide: bool, condition: u8, offset: i32) -> bool
 {
     match op {
         BranchOp::B => {
-            let always = condition == 14;
-            if always {
+            if condition == 14 {
                 return (-16777216 <= offset) & (offset <= 16777214);
             }
             (condition <= 14) & ((-1048576 <= offset) & (offset <= 1048574))
@@ -217,13 +189,12 @@ pub fn compare_branch_of(d: CompareBranchFields) -> bool
 pub fn if_then_of(d: IfThenFields) -> bool
     ensures { result ≡ if_then_formed d }
 {
-    let count = d.count;
     !d.form.s
         & !d.form.wide
         & (d.condition <= 14)
-        & (1 <= count)
-        & (count <= 4)
-        & elses_fit_of(d.elses, count)
+        & (1 <= d.count)
+        & (d.count <= 4)
+        & elses_fit_of(d.elses, d.count)
 }
 
 // An even number of 16 bits is at most 65,534.

@@ -7,7 +7,7 @@ ghost use Rattle.flags.specs.Flags.{clear, passes, signs, all_four, saturating};
 
 use sum::Sum;
 
-#[derive(Clone, Copy)]
+#[derive(Clone, Copy, Debug, Default, PartialEq, Eq)]
 pub struct Flags {
     pub n: bool,
     pub z: bool,
@@ -20,16 +20,11 @@ impl Flags {
     pub fn none_set() -> Self
         ensures { result ≡ clear }
     {
-        Flags {
-            n: false,
-            z: false,
-            c: false,
-            v: false,
-            q: false,
-        }
+        Self::default()
     }
 
     // Whatever is no condition passes: there is none to fail.
+    #[tactic(auto, unfolding(crate::specs::Flags::passes))]
     pub fn pass(self, condition: u8) -> bool
         ensures { result ≡ passes self condition }
     {
@@ -53,18 +48,18 @@ impl Flags {
         }
     }
 
+    #[tactic(auto, unfolding(crate::specs::Flags::signs))]
     pub fn with_signs(self, value: u32) -> Self
         ensures { result ≡ signs value self }
     {
         Flags {
             n: 0x8000_0000 <= value,
             z: value == 0,
-            c: self.c,
-            v: self.v,
-            q: self.q,
+            ..self
         }
     }
 
+    #[tactic(auto, unfolding(crate::specs::Flags::all_four))]
     pub fn with_all(self, sum: Sum) -> Self
         ensures { result ≡ all_four sum self }
     {
@@ -73,19 +68,17 @@ impl Flags {
             z: sum.value == 0,
             c: sum.carry,
             v: sum.overflow,
-            q: self.q,
+            ..self
         }
     }
 
+    #[tactic(auto, unfolding(crate::specs::Flags::saturating))]
     pub fn with_saturation(self, saturated: bool) -> Self
         ensures { result ≡ saturating saturated self }
     {
         Flags {
-            n: self.n,
-            z: self.z,
-            c: self.c,
-            v: self.v,
             q: self.q | saturated,
+            ..self
         }
     }
 }

@@ -15,7 +15,7 @@ use Rattle.waiting.specs.declared.Waiting.{Waiting}
 use Rattle.waiting.specs.Waiting.{block, dropped}
 use Rattle.flow.specs.declared.Way.{Way}
 use Rattle.flow.specs.declared.Way.TheVariants.{Next, Direct, Taken, Fills}
-use Rattle.flow.specs.declared.Opens.TheVariants.{Nothing}
+use Rattle.std.specs.Prelude.{None}
 use Rattle.flow.specs.Flow.{form_length, traits, machine_length, way, leaves, fills, opened, after}
 
 pub record Opener (r : Record) : Type 0 where
@@ -36,13 +36,13 @@ pub data Parting (r : Record) : Type 0 where
 
 pub record Row (r : Record) : Type 0 where
   pub length : Sized r
-  pub opens : ((traits r).opens ≡ Nothing) ⊎ Opener r
+  pub opens : ((traits r).opens ≡ None) ⊎ Opener r
   pub parts : ((traits r).parts ≡ false) ⊎ Parting r
 
-plain : (r : Record) (form : Form) → (traits r).length ≡ form_length form → (traits r).opens ≡ Nothing → (traits r).parts ≡ false → Row r
+plain : (r : Record) (form : Form) → (traits r).length ≡ form_length form → (traits r).opens ≡ None → (traits r).parts ≡ false → Row r
 plain r form e f g = record { length = Formed form e; opens = inl f; parts = inl g }
 
-parting_row : (r : Record) → Sized r → (traits r).opens ≡ Nothing → ((traits r).parts ≡ true → Parting r) → Row r
+parting_row : (r : Record) → Sized r → (traits r).opens ≡ None → ((traits r).parts ≡ true → Parting r) → Row r
 parting_row r e f g = record {
   length = e;
   opens = inl f;

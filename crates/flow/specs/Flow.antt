@@ -1,5 +1,5 @@
 -- What a record does to the way through a listing: its length, where it goes, the spots that it may not take, the block that it opens.
-use Rattle.std.specs.Prelude.{ℕ, ◌+◌, ◌%◌, ◌^◌, Bool, true, false, not, ◌&&◌, ◌||◌, pos, ◌==◌, nat_le}
+use Rattle.std.specs.Prelude.{ℕ, Option, Some, None, ◌+◌, ◌%◌, ◌^◌, Bool, true, false, not, ◌&&◌, ◌||◌, pos, ◌==◌, nat_le}
 use Rattle.std.specs.Bool.{if◌then◌else◌}
 use Rattle.address.specs.Address.{moved}
 use Rattle.register_list.specs.List.{member}
@@ -13,8 +13,7 @@ use Rattle.waiting.specs.Waiting.{block, dropped}
 use Rattle.flow.specs.declared.Traits.{Traits}
 use Rattle.flow.specs.declared.Way.{Way}
 use Rattle.flow.specs.declared.Way.TheVariants.{Next, Direct, Taken, Fills}
-use Rattle.flow.specs.declared.Opens.{Opens}
-use Rattle.flow.specs.declared.Opens.TheVariants.{Nothing, Block}
+use Rattle.flow.specs.declared.Block.{Block}
 
 -- "bit 1 set for 4 machine bytes, clear for 2"
 abbrev pub form_length : Form → ℕ
@@ -31,7 +30,7 @@ taken_if test = if test then Taken else Next
 -- a record that may stand anywhere in a block, or last in it if it leaves, with no condition of its own (as if it were AL)
 abbrev pub going : Form → Way → Traits
 going form way =
-    record { length = form_length form; way = way; alone = false; own = 14; opens = Nothing; parts = false }
+    record { length = form_length form; way = way; alone = false; own = 14; opens = None; parts = false }
 
 -- one that only goes on to the next
 abbrev pub passing : Form → Traits
@@ -40,12 +39,12 @@ passing form = going form Next
 -- one that stands alone if the test holds: "only with no conditions waiting"
 abbrev pub lone : Bool → Form → Way → Traits
 lone test form way =
-    record { length = form_length form; way = way; alone = test; own = 14; opens = Nothing; parts = false }
+    record { length = form_length form; way = way; alone = test; own = 14; opens = None; parts = false }
 
 -- one that goes where a register or memory says, and after which a filler may stand if the test holds
 abbrev pub parting : Bool → Form → Traits
 parting test form =
-    record { length = form_length form; way = Taken; alone = false; own = 14; opens = Nothing; parts = test }
+    record { length = form_length form; way = Taken; alone = false; own = 14; opens = None; parts = test }
 
 -- The traits of each kind. Where it goes: on to the next; directly, by an offset ("B, BL, CBZ and CBNZ are direct"); or where a register or
 -- memory says ("BX, BLX, MOV or ADD with Rd 15, LDR with Rt 15, or a load of kind 10 with 15 in its list"). What stands alone: "IT, CBZ, CBNZ,
@@ -74,7 +73,7 @@ traits (Branch d) = record {
   way = Direct d.offset;
   alone = not (is_bl d.op) && not (d.condition == 14);
   own = d.condition;
-  opens = Nothing;
+  opens = None;
   parts = not (is_bl d.op) && (d.condition == 14);
 }
 traits (RegisterBranch d) = parting (not (is_blx d.op)) d.form
@@ -84,12 +83,12 @@ traits (IfThen d) = record {
   way = Next;
   alone = true;
   own = 14;
-  opens = Block d.condition d.count d.elses;
+  opens = Some (record { condition = d.condition; count = d.count; elses = d.elses });
   parts = false;
 }
 traits (Nop form) = passing form
 traits (TableBranch d) = parting true d.form
-traits (Filler number) = record { length = number; way = Fills; alone = false; own = 14; opens = Nothing; parts = true }
+traits (Filler number) = record { length = number; way = Fills; alone = false; own = 14; opens = None; parts = true }
 
 unfoldable pub machine_length : Record → ℕ
 machine_length r = (traits r).length
@@ -123,9 +122,9 @@ unfoldable pub misplaced : Record → ℕ → Bool
 misplaced r waiting = (traits r).alone && nat_le 1 waiting || leaves (way r) && nat_le 2 waiting
 
 -- the conditions that wait after a record: of the block that it opens, or with the first used up
-unfoldable pub opened : Opens → Waiting → Waiting
-opened Nothing w = dropped w
-opened (Block condition count elses) w = block condition count elses
+unfoldable pub opened : Option Block → Waiting → Waiting
+opened None w = dropped w
+opened (Some b) w = block b.condition b.count b.elses
 
 unfoldable pub after : Record → Waiting → Waiting
 after r = opened (traits r).opens

@@ -11,7 +11,7 @@ use record::{BranchFields, Form, IfThenFields, Record, register};
 use waiting::Waiting;
 
 // Where a record goes.
-#[derive(Clone, Copy)]
+#[derive(Clone, Copy, PartialEq, Eq)]
 pub enum Way {
     // to the next record, by its length
     Next,
@@ -23,11 +23,39 @@ pub enum Way {
     Fills,
 }
 
-// What a record opens: no block, or one of a condition, a count and else bits.
+impl Way {
+    #[tactic(auto, unfolding(crate::specs::Flow::leaves))]
+    pub fn leaves(self) -> bool
+        ensures { result ≡ leaves self }
+    {
+        matches!(self, Way::Direct(_) | Way::Taken)
+    }
+
+    #[tactic(auto, unfolding(crate::specs::Flow::fills))]
+    pub fn fills(self) -> bool
+        ensures { result ≡ fills self }
+    {
+        matches!(self, Way::Fills)
+    }
+
+    // The target of a direct branch that stands at an address; 0 of any other record.
+    #[tactic(auto, unfolding(crate::specs::Flow::target))]
+    pub fn target(self, address: u32) -> u32
+        ensures { result ≡ target address self }
+    {
+        match self {
+            Way::Direct(offset) => address::offset_by(address.wrapping_add(4), offset),
+            _ => 0,
+        }
+    }
+}
+
+// The block that an IT record opens.
 #[derive(Clone, Copy)]
-pub enum Opens {
-    Nothing,
-    Block(u8, u8, u8),
+pub struct Block {
+    pub condition: u8,
+    pub count: u8,
+    pub elses: u8,
 }
 
 // What a listing must know of a record.
@@ -40,63 +68,41 @@ pub struct Traits {
     pub alone: bool,
     // the condition that rules it outside a block
     pub own: u8,
-    pub opens: Opens,
+    pub opens: Option<Block>,
     // may a filler stand after it, where nothing waits at it?
     pub parts: bool,
 }
 
 // One match a record: a kind more is a row here.
+#[tactic(auto, unfolding(crate::specs::Flow::traits))]
 pub fn traits_of(r: Record) -> Traits
     ensures { result ≡ traits r }
 {
     match r {
-        Record::ShiftedRegister(d) => {
-            let op = d.op;
-            going_of(d.form, taken_if_of(to_pc_of(op, d.rd)))
-        }
-        Record::Constant(d) => {
-            let op = d.op;
-            going_of(d.form, taken_if_of(to_pc_of(op, d.rd)))
-        }
+        Record::ShiftedRegister(d) => going_of(d.form, taken_if_of(to_pc_of(d.op, d.rd))),
+        Record::Constant(d) => going_of(d.form, taken_if_of(to_pc_of(d.op, d.rd))),
         Record::RegisterShift(d) => passing_of(d.form),
         Record::AddNumber(d) => passing_of(d.form),
         Record::MoveNumber(d) => passing_of(d.form),
         Record::Unary(d) => passing_of(d.form),
-        Record::Multiply(d) => {
-            let op = d.op;
-            lone_of(record::op::is_mul_of(op) & d.form.s, d.form, Way::Next)
-        }
+        Record::Multiply(d) => lone_of(d.op.is_mul() & d.form.s, d.form, Way::Next),
         Record::LongMultiply(d) => passing_of(d.form),
         Record::Divide(d) => passing_of(d.form),
         Record::Saturate(d) => passing_of(d.form),
         Record::BitField(d) => passing_of(d.form),
         Record::Extend(d) => passing_of(d.form),
-        Record::Access(d) => {
-            let op = d.op;
-            going_of(
-                d.form,
-                taken_if_of(record::op::is_ldr_of(op) & (d.rt == register::PC)),
-            )
-        }
-        Record::IndexedAccess(d) => {
-            let op = d.op;
-            going_of(
-                d.form,
-                taken_if_of(record::op::is_ldr_of(op) & (d.rt == register::PC)),
-            )
-        }
+        Record::Access(d) => going_of(d.form, taken_if_of(d.op.is_ldr() & (d.rt == register::PC))),
+        Record::IndexedAccess(d) => going_of(
+            d.form,
+            taken_if_of(d.op.is_ldr() & (d.rt == register::PC)),
+        ),
         Record::DualAccess(d) => passing_of(d.form),
         Record::MultipleAccess(d) => {
-            let op = d.op;
-            let leaves = record::op::loads_many_of(op)
-                & register_list::holds(d.list, register::PC as u32);
+            let leaves = d.op.loads() & register_list::holds(d.list, register::PC as u32);
             going_of(d.form, taken_if_of(leaves))
         }
         Record::Branch(d) => branch_traits_of(d),
-        Record::RegisterBranch(d) => {
-            let op = d.op;
-            parting_of(!record::op::is_blx_of(op), d.form)
-        }
+        Record::RegisterBranch(d) => parting_of(!d.op.is_blx(), d.form),
         Record::CompareBranch(d) => lone_of(true, d.form, Way::Direct(d.offset as i32)),
         Record::IfThen(d) => if_then_traits_of(d),
         Record::Nop(form) => passing_of(form),
@@ -106,27 +112,28 @@ pub fn traits_of(r: Record) -> Traits
             way: Way::Fills,
             alone: false,
             own: 14,
-            opens: Opens::Nothing,
+            opens: None,
             parts: true,
         },
     }
 }
 
+#[tactic(auto, unfolding(crate::specs::Flow::traits))]
 fn branch_traits_of(d: BranchFields) -> Traits
     ensures { result ≡ traits (Branch d) }
 {
-    let op = d.op;
-    let links = record::op::is_bl_of(op);
+    let links = d.op.is_bl();
     Traits {
         length: form_length_of(d.form),
         way: Way::Direct(d.offset),
-        alone: !links & !(d.condition == 14),
+        alone: !links & (d.condition != 14),
         own: d.condition,
-        opens: Opens::Nothing,
+        opens: None,
         parts: !links & (d.condition == 14),
     }
 }
 
+#[tactic(auto, unfolding(crate::specs::Flow::traits))]
 fn if_then_traits_of(d: IfThenFields) -> Traits
     ensures { result ≡ traits (IfThen d) }
 {
@@ -135,7 +142,11 @@ fn if_then_traits_of(d: IfThenFields) -> Traits
         way: Way::Next,
         alone: true,
         own: 14,
-        opens: Opens::Block(d.condition, d.count, d.elses),
+        opens: Some(Block {
+            condition: d.condition,
+            count: d.count,
+            elses: d.elses,
+        }),
         parts: false,
     }
 }
@@ -148,7 +159,7 @@ fn lone_of(test: bool, form: Form, way: Way) -> Traits
         way,
         alone: test,
         own: 14,
-        opens: Opens::Nothing,
+        opens: None,
         parts: false,
     }
 }
@@ -161,7 +172,7 @@ fn parting_of(test: bool, form: Form) -> Traits
         way: Way::Taken,
         alone: false,
         own: 14,
-        opens: Opens::Nothing,
+        opens: None,
         parts: test,
     }
 }
@@ -187,8 +198,7 @@ fn form_length_of(form: Form) -> u32
 fn to_pc_of(op: DataOp, rd: u8) -> bool
     ensures { result ≡ to_pc op rd }
 {
-    let code = record::op::data_code_of(op);
-    (rd == register::PC) & ((code == 0) | (code == 10))
+    (rd == register::PC) & matches!(op, DataOp::Add | DataOp::Mov)
 }
 
 fn taken_if_of(test: bool) -> Way
@@ -197,79 +207,49 @@ fn taken_if_of(test: bool) -> Way
     if test { Way::Taken } else { Way::Next }
 }
 
+#[tactic(auto, unfolding(crate::specs::Flow::machine_length))]
 pub fn machine_length_of(r: Record) -> u32
     ensures { result ≡ machine_length r }
 {
     traits_of(r).length
 }
 
+#[tactic(auto, unfolding(crate::specs::Flow::way))]
 pub fn way_of(r: Record) -> Way
     ensures { result ≡ way r }
 {
     traits_of(r).way
 }
 
-// The target of a direct branch that stands at an address; 0 of any other record.
-pub fn target_of(address: u32, w: Way) -> u32
-    ensures { result ≡ target address w }
-{
-    match w {
-        Way::Next => 0,
-        Way::Direct(offset) => address::offset_by(std::num::wrapping_add_u32(address, 4), offset),
-        Way::Taken => 0,
-        Way::Fills => 0,
-    }
-}
-
-pub fn leaves_of(w: Way) -> bool
-    ensures { result ≡ leaves w }
-{
-    match w {
-        Way::Next => false,
-        Way::Direct(_) => true,
-        Way::Taken => true,
-        Way::Fills => false,
-    }
-}
-
-pub fn fills_of(w: Way) -> bool
-    ensures { result ≡ fills w }
-{
-    match w {
-        Way::Next => false,
-        Way::Direct(_) => false,
-        Way::Taken => false,
-        Way::Fills => true,
-    }
-}
-
 // May the record not stand where so many conditions wait?
+#[tactic(auto, unfolding(crate::specs::Flow::misplaced, crate::specs::Flow::way))]
 pub fn is_misplaced(r: Record, waiting: u32) -> bool
     ensures { result ≡ misplaced r waiting }
 {
     let t = traits_of(r);
-    let way = t.way;
-    t.alone & (1 <= waiting) | leaves_of(way) & (2 <= waiting)
+    t.alone & (1 <= waiting) | t.way.leaves() & (2 <= waiting)
 }
 
+#[tactic(auto, unfolding(crate::specs::Flow::after))]
 pub fn waiting_after(r: Record, w: Waiting) -> Waiting
     ensures { result ≡ after r w }
 {
-    let opens = traits_of(r).opens;
-    opened_of(opens, w)
+    opened_of(traits_of(r).opens, w)
 }
 
 // What waits after a record that opens this.
-pub fn opened_of(opens: Opens, w: Waiting) -> Waiting
+#[tactic(auto, unfolding(crate::specs::Flow::opened))]
+pub fn opened_of(opens: Option<Block>, w: Waiting) -> Waiting
     ensures { result ≡ opened opens w }
 {
     match opens {
-        Opens::Nothing => w.drop_first(),
-        Opens::Block(condition, count, elses) => Waiting::block_of(condition, count, elses),
+        Some(block) => Waiting::block_of(block.condition, block.count, block.elses),
+        None => w.drop_first(),
     }
 }
 
 // The condition that rules a record outside a block.
+#[tactic(auto, unfolding(crate::specs::Flow::own_condition))]
 pub fn own_condition_of(r: Record) -> u8
     ensures { result ≡ own_condition r }
 {

@@ -42,7 +42,7 @@ waiting_of image = record {
 }
 
 -- a condition of a machine that may be good is 0 to 14; past the count there is 0
-abbrev pub place_fits : List ℕ → ℕ → Bool
+unfoldable pub place_fits : List ℕ → ℕ → Bool
 place_fits image i = leb (byte image (70 + i)) (if ltb i (byte image 69) then 14 else 0)
 
 unfoldable pub waiting_fits : List ℕ → Bool

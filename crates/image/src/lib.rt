@@ -3,7 +3,6 @@
 #![tactic(auto)]
 
 ghost use Rattle.std.specs.Prelude.{◌≡◌, set};
-ghost use Rattle.word.specs.Word.{one_if};
 ghost use Rattle.image.specs.Image.{words, flags_of, flags_fit, condition_at, waiting_of, place_fits, waiting_fits, is_image, machine_of, condition_byte, with_flag_bytes, with_waiting_bytes, image_of};
 
 use flags::Flags;
@@ -11,67 +10,62 @@ use machine::Machine;
 use setup::Setup;
 use waiting::Waiting;
 
+#[tactic(auto, unfolding(crate::specs::Image::is_image))]
 pub fn is_image_of(image: &[u8]) -> bool
     ensures { result ≡ is_image image.now }
 {
     (image.len() == 74) & do_flags_fit(image) & does_waiting_fit(image)
 }
 
+#[tactic(auto, unfolding(crate::specs::Image::flags_fit))]
 fn do_flags_fit(image: &[u8]) -> bool
     ensures { result ≡ flags_fit image.now }
 {
-    (little::byte_at(image, 64) < 2)
-        & (little::byte_at(image, 65) < 2)
-        & (little::byte_at(image, 66) < 2)
-        & (little::byte_at(image, 67) < 2)
-        & (little::byte_at(image, 68) < 2)
+    (64..69).all(|at| little::byte_at(image, at) < 2)
 }
 
+#[tactic(auto, unfolding(crate::specs::Image::place_fits))]
 fn does_place_fit(image: &[u8], i: u8) -> bool
     ensures { result ≡ place_fits image.now i }
 {
-    let condition = little::byte_at(image, 70 + i as usize);
-    let within = i < little::byte_at(image, 69);
-    if within {
+    let condition = little::byte_at(image, 70 + usize::from(i));
+    if i < little::byte_at(image, 69) {
         return condition <= 14;
     }
-    condition <= 0
+    condition == 0
 }
 
+#[tactic(auto, unfolding(crate::specs::Image::waiting_fits))]
 fn does_waiting_fit(image: &[u8]) -> bool
     ensures { result ≡ waiting_fits image.now }
 {
-    (little::byte_at(image, 69) <= 4)
-        & does_place_fit(image, 0)
-        & does_place_fit(image, 1)
-        & does_place_fit(image, 2)
-        & does_place_fit(image, 3)
+    little::byte_at(image, 69) <= 4 && (0..4).all(|i| does_place_fit(image, i))
 }
 
 // The machine that an image is.
+#[tactic(auto, unfolding(crate::specs::Image::machine_of))]
 pub fn read(image: &[u8]) -> Machine
     ensures { result ≡ machine_of image.now }
 {
-    let registers = registers_of(image);
     Machine {
-        registers,
+        registers: registers_of(image),
         flags: flags_from(image),
         waiting: waiting_from(image),
     }
 }
 
+#[tactic(auto, using(crate::proofs::Laws::words_next), unfolding(crate::specs::Image::words))]
 fn registers_of(image: &[u8]) -> [u32; 16]
     ensures { result ≡ words 16 image.now }
 {
-    let mut registers: [u32; 16] = [0; 16];
-    let mut i = 0;
-    while i < 16 {
+    let mut registers = [0; 16];
+    for i in 0..16 {
         registers[i] = little::word_at(image, 4 * i);
-        i += 1;
     }
     registers
 }
 
+#[tactic(auto, unfolding(crate::specs::Image::flags_of))]
 fn flags_from(image: &[u8]) -> Flags
     ensures { result ≡ flags_of image.now }
 {
@@ -87,13 +81,13 @@ fn flags_from(image: &[u8]) -> Flags
 fn condition_from(image: &[u8], i: u8) -> u8
     ensures { result ≡ condition_at image.now i }
 {
-    let within = i < little::byte_at(image, 69);
-    if within {
-        return little::byte_at(image, 70 + i as usize);
+    if i < little::byte_at(image, 69) {
+        return little::byte_at(image, 70 + usize::from(i));
     }
     Waiting::NONE
 }
 
+#[tactic(auto, unfolding(crate::specs::Image::waiting_of))]
 fn waiting_from(image: &[u8]) -> Waiting
     ensures { result ≡ waiting_of image.now }
 {
@@ -106,11 +100,11 @@ fn waiting_from(image: &[u8]) -> Waiting
 }
 
 // Puts a machine in an image; of a slice of another length, what there is room for.
+#[tactic(auto, unfolding(crate::specs::Image::image_of))]
 pub fn write(image: &mut [u8], m: Machine)
     ensures { image.new ≡ image_of image.old m }
 {
-    let registers = m.registers;
-    transfer::store_list(Setup::new(0), image, registers, 0xffff, 0);
+    transfer::store_list(Setup::new(0), image, m.registers, 0xffff, 0);
     write_flags(image, m.flags);
     write_waiting(image, m.waiting);
 }
@@ -123,32 +117,28 @@ fn put(image: &mut [u8], at: usize, x: u8)
     }
 }
 
-fn flag_byte(flag: bool) -> u8
-    ensures { result ≡ one_if flag }
-{
-    if flag { 1 } else { 0 }
-}
-
+// A line for each byte, here and below: which flag and which condition stands where is what an image is, and an array to walk would say it again.
+#[tactic(auto, unfolding(crate::specs::Image::with_flag_bytes))]
 fn write_flags(image: &mut [u8], flags: Flags)
     ensures { image.new ≡ with_flag_bytes image.old flags }
 {
-    put(image, 64, flag_byte(flags.n));
-    put(image, 65, flag_byte(flags.z));
-    put(image, 66, flag_byte(flags.c));
-    put(image, 67, flag_byte(flags.v));
-    put(image, 68, flag_byte(flags.q));
+    put(image, 64, u8::from(flags.n));
+    put(image, 65, u8::from(flags.z));
+    put(image, 66, u8::from(flags.c));
+    put(image, 67, u8::from(flags.v));
+    put(image, 68, u8::from(flags.q));
 }
 
 fn condition_byte_of(condition: u8) -> u8
     ensures { result ≡ condition_byte condition }
 {
-    let no = condition == Waiting::NONE;
-    if no {
+    if condition == Waiting::NONE {
         return 0;
     }
     condition
 }
 
+#[tactic(auto, using(crate::proofs::Laws::count_le), unfolding(crate::specs::Image::with_waiting_bytes))]
 fn write_waiting(image: &mut [u8], waiting: Waiting)
     ensures { image.new ≡ with_waiting_bytes image.old waiting }
 {

@@ -1,5 +1,5 @@
 -- What the C functions answer, as include/simbhoket.h says it.
-use Rattle.std.specs.Prelude.{ℕ, ◌+◌, ◌*◌, ◌^◌, ◌&&◌, List, eqb, length}
+use Rattle.std.specs.Prelude.{ℕ, ◌+◌, ◌*◌, ◌^◌, ◌&&◌, Option, Some, None, List, eqb, length, Option, Some, None}
 use Rattle.std.specs.Bool.{if◌then◌else◌}
 use Rattle.flow.specs.Flow.{machine_length, way, target}
 use Rattle.flow.specs.declared.Way.{Way}
@@ -7,21 +7,16 @@ use Rattle.flow.specs.declared.Way.TheVariants.{Next, Direct, Taken, Fills}
 use Rattle.setup.specs.declared.Setup.{Setup}
 use Rattle.setup.specs.Setup.{at_base}
 use Rattle.memory.specs.Memory.{stored}
+use Rattle.listing.specs.Check.{Checked}
 use Rattle.machine.specs.Machine.{Outcome}
 use Rattle.machine.specs.Step.{stepped}
 use Rattle.image.specs.Image.{is_image, machine_of, image_of}
-use Rattle.listing.specs.declared.Checked.{Checked}
-use Rattle.run.specs.declared.Stored.{Stored}
-use Rattle.run.specs.declared.Stored.TheVariants.{In, None}
-use Rattle.run.specs.declared.Halted.{Halted}
 use Rattle.run.specs.Run.{Rehearsal, state, run_of, Ending, outcome}
-use Rattle.run.specs.Place.{fresh_run, resumed, Halting, halt}
+use Rattle.run.specs.Place.{Halted, fresh_run, resumed, Halting, halt}
 use Rattle.rehearsal.specs.Program.{Told}
 use Rattle.kinds.specs.Kinds.{listing_length}
-use Rattle.reading.specs.declared.Read.{Read}
-use Rattle.reading.specs.declared.Read.TheVariants.{Is, Refused}
-use Rattle.reading.specs.declared.ReadAt.{ReadAt}
-use Rattle.reading.specs.declared.ReadAt.TheVariants.{Found, Nothing}
+use Rattle.record.specs.declared.Record.{Record}
+use Rattle.reading.specs.declared.Place.{Place}
 
 -- the number that a step in C gives, and what it leaves in the lent bytes
 pub record Left : Type 0 where
@@ -74,12 +69,12 @@ image_run budget h image bytes answer =
     else run_left 1 image bytes answer
 
 -- a stored place as a number: "none" is 0xFFFFFFFF
-unfoldable pub place_number : Stored → ℕ
-place_number (In p) = p.0
+unfoldable pub place_number : Option Place → ℕ
+place_number (Some p) = p.0
 place_number None = 0xFFFFFFFF
 
-unfoldable pub numbered_place : ℕ → Stored
-numbered_place n = if eqb n 0xFFFFFFFF then None else In (record { 0 = n })
+unfoldable pub numbered_place : ℕ → Option Place
+numbered_place n = if eqb n 0xFFFFFFFF then None else Some (record { 0 = n })
 
 -- "number, place, count and stored place .. as little-endian words"
 unfoldable pub with_place : List ℕ → Halted → List ℕ
@@ -120,9 +115,9 @@ abbrev pub pair : ℕ → ℕ → ℕ
 pair low high = high * 2 ^ 32 + low
 
 -- the listing bytes of a record, and above them its machine bytes; 0 where there is none
-unfoldable pub measured : ReadAt → ℕ → ℕ
-measured (Found r next) kind = pair (listing_length kind) (machine_length r)
-measured Nothing kind = 0
+unfoldable pub measured : Option (Record × Place) → ℕ → ℕ
+measured (Some (r, next)) kind = pair (listing_length kind) (machine_length r)
+measured None kind = 0
 
 -- 0 for a record that goes on; 1, and above it the target; 2 where a register or memory says; 4 for a filler, which goes nowhere
 unfoldable pub way_number : Way → ℕ → ℕ
@@ -131,9 +126,9 @@ way_number (Direct offset) address = pair 1 (target address (Direct offset))
 way_number Taken address = 2
 way_number Fills address = 4
 
-unfoldable pub way_read : Read → ℕ → ℕ
-way_read (Is r) address = way_number (way r) address
-way_read Refused address = 3
+unfoldable pub way_read : Option Record → ℕ → ℕ
+way_read (Some r) address = way_number (way r) address
+way_read None address = 3
 
 -- the number plus 2^32 times the place
 unfoldable pub reported : Checked → ℕ

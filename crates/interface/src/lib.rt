@@ -11,27 +11,29 @@ ghost use Rattle.std.specs.Prelude.{if◌then◌else◌};
 ghost use Rattle.image.specs.Image.{image_of};
 ghost use Rattle.listing.specs.Check.{checked};
 ghost use Rattle.run.specs.Run.{rehearsal};
+ghost use Rattle.run.specs.Ended.{end_number, as_halted};
 ghost use Rattle.rehearsal.specs.Program.{program_budget, rehearsed};
 ghost use Rattle.interface.specs.Interface.{left, image_stepped, run_left, with_answer, image_run, place_number, numbered_place, with_place, image_begun, image_resumed, text_left, text_laid, pair, measured, way_number, way_read, reported};
 
 use flow::Way;
 use machine::Machine;
-use reading::{Place, Read, ReadAt};
-use run::{Halted, Running, Stored};
+use reading::Place;
+use run::{Halted, Running};
 use setup::Setup;
 
 #[unsafe(no_mangle)]
 pub extern "C" fn simbhoket_judge(r: &[u8], waiting: u32) -> u32
     ensures { result ≡ judged (read_one r.now) waiting }
 {
-    judge::judge(r, waiting)
+    refusal::number_of(judge::judge(r, waiting))
 }
 
 #[unsafe(no_mangle)]
+#[tactic(auto, unfolding(crate::specs::Interface::measured))]
 pub extern "C" fn simbhoket_measure(listing: &[u8], place: usize) -> u64
     ensures { result ≡ measured (read_at listing.now place) (byte listing.now place) }
 {
-    let ReadAt::Found(found, _) = reading::read_next(listing, Place(place)) else {
+    let Some((found, _)) = reading::read_next(listing, Place(place)) else {
         return 0;
     };
     let size = kinds::listing_length_of(little::byte_at(listing, place));
@@ -39,10 +41,11 @@ pub extern "C" fn simbhoket_measure(listing: &[u8], place: usize) -> u64
 }
 
 #[unsafe(no_mangle)]
+#[tactic(auto, unfolding(crate::specs::Interface::way_read))]
 pub extern "C" fn simbhoket_way(r: &[u8], address: u32) -> u64
     ensures { result ≡ way_read (read_one r.now) address }
 {
-    let Read::Is(found) = reading::read_all(r) else {
+    let Some(found) = reading::read_all(r) else {
         return 3;
     };
     way_number_of(flow::way_of(found), address)
@@ -52,26 +55,37 @@ pub extern "C" fn simbhoket_way(r: &[u8], address: u32) -> u64
 pub extern "C" fn simbhoket_check(listing: &[u8], base: u32) -> u64
     ensures { result ≡ reported (checked listing.now base) }
 {
-    let answer = listing::check(listing, base);
-    pair_of(answer.number, answer.place.0 as u32)
+    match listing::check(listing, base) {
+        Ok(()) => 0,
+        Err(misfit) => {
+            let place = misfit.place.0 as u32;
+            pair_of(u32::from(misfit.refusal), place)
+        }
+    }
 }
 
+// Memory and its base come and stay apart, as C lends them: one struct of both would hold a `&mut` slice, which every clause on memory would name.
 #[unsafe(no_mangle)]
+#[tactic(auto, unfolding(crate::specs::Interface::image_stepped, crate::specs::Interface::leaving, machine::specs::Machine::done, machine::specs::Machine::refused))]
 pub extern "C" fn simbhoket_step(machine: &mut [u8], r: &[u8], memory: &mut [u8], base: u32) -> u32
     ensures { left result machine.new memory.new ≡ image_stepped machine.old r.now memory.old (at_base base) }
 {
     let known = image::is_image_of(machine);
     if known {
         let before = image::read(machine);
-        let stepped = before.step(r, memory, Setup::new(base));
-        let number = stepped.number;
-        write_if(number == 0, machine, stepped.machine);
-        return number;
+        return match before.step(r, memory, Setup::new(base)) {
+            Ok(after) => {
+                image::write(machine, after);
+                0
+            }
+            Err(refusal) => u32::from(refusal),
+        };
     }
     1
 }
 
 #[unsafe(no_mangle)]
+#[tactic(auto, unfolding(crate::specs::Interface::image_run, crate::specs::Interface::run_leaving))]
 pub extern "C" fn simbhoket_run(
     machine: &mut [u8],
     listing: &[u8],
@@ -89,14 +103,15 @@ pub extern "C" fn simbhoket_run(
         let ran = run::run(before, listing, origin, memory, Setup::new(base), budget);
         let after = ran.machine;
         image::write(machine, after);
-        let place = ran.place.0;
-        tell(answer, ran.number, place, ran.count);
-        return ran.number;
+        let number = ran.end.number();
+        tell(answer, number, ran.end.place().0, ran.count);
+        return number;
     }
     1
 }
 
 #[unsafe(no_mangle)]
+#[tactic(auto, unfolding(crate::specs::Interface::halt_leaving, crate::specs::Interface::image_begun))]
 pub extern "C" fn simbhoket_begin(
     machine: &mut [u8],
     listing: &[u8],
@@ -118,6 +133,7 @@ pub extern "C" fn simbhoket_begin(
 }
 
 #[unsafe(no_mangle)]
+#[tactic(auto, unfolding(crate::specs::Interface::halt_leaving, crate::specs::Interface::image_resumed))]
 pub extern "C" fn simbhoket_resume(
     machine: &mut [u8],
     listing: &[u8],
@@ -145,6 +161,7 @@ pub extern "C" fn simbhoket_resume(
 }
 
 #[unsafe(no_mangle)]
+#[tactic(auto, unfolding(crate::specs::Interface::text_laid))]
 pub extern "C" fn simbhoket_rehearse(listing: &[u8], room: &mut [u8]) -> usize
     ensures { text_left result room.new ≡ text_laid (rehearsed program_budget listing.now room.old) }
 {
@@ -153,33 +170,35 @@ pub extern "C" fn simbhoket_rehearse(listing: &[u8], room: &mut [u8]) -> usize
 }
 
 fn hand_back(machine: &mut [u8], answer: &mut [u8], halted: Halted) -> u32
-    ensures { (result ≡ halted.number) × (machine.new ≡ image_of machine.old halted.running.machine) × (answer.new ≡ with_place answer.old halted) }
+    ensures { (result ≡ end_number halted.end) × (machine.new ≡ image_of machine.old halted.running.machine) × (answer.new ≡ with_place answer.old (as_halted halted)) }
 {
     let running = halted.running;
     let after = running.machine;
     let stored = running.stored;
     image::write(machine, after);
-    let place = halted.place.0;
-    tell(answer, halted.number, place, halted.count);
+    let number = halted.end.number();
+    tell(answer, number, halted.end.place().0, halted.count);
     memory::store_word(answer, Setup::new(0), 12, place_number_of(stored));
-    halted.number
+    number
 }
 
-fn stored_of(place: u32) -> Stored
+#[tactic(auto, unfolding(crate::specs::Interface::numbered_place))]
+fn stored_of(place: u32) -> Option<Place>
     ensures { result ≡ numbered_place place }
 {
     if place == 0xffff_ffff {
-        return Stored::None;
+        return None;
     }
-    Stored::In(Place(place as usize))
+    Some(Place(place as usize))
 }
 
-fn place_number_of(stored: Stored) -> u32
+#[tactic(auto, unfolding(crate::specs::Interface::place_number))]
+fn place_number_of(stored: Option<Place>) -> u32
     ensures { result ≡ place_number stored % 2 ^ 32 }
 {
     match stored {
-        Stored::In(place) => (place.0 % 0x1_0000_0000) as u32,
-        Stored::None => 0xffff_ffff,
+        Some(place) => (place.0 % 0x1_0000_0000) as u32,
+        None => 0xffff_ffff,
     }
 }
 
@@ -192,20 +211,13 @@ fn tell(answer: &mut [u8], number: u32, place: usize, count: u32)
     memory::store_word(answer, first, 8, count);
 }
 
-fn write_if(done: bool, image: &mut [u8], m: Machine)
-    ensures { image.new ≡ (if done then image_of image.old m else image.old) }
-{
-    if done {
-        image::write(image, m);
-    }
-}
-
+#[tactic(auto, unfolding(crate::specs::Interface::way_number))]
 fn way_number_of(w: Way, address: u32) -> u64
     ensures { result ≡ way_number w address }
 {
     match w {
         Way::Next => 0,
-        Way::Direct(_) => pair_of(1, flow::target_of(address, w)),
+        Way::Direct(_) => pair_of(1, w.target(address)),
         Way::Taken => 2,
         Way::Fills => 4,
     }

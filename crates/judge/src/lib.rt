@@ -1,36 +1,32 @@
-// The number that a record is refused with: 2, 3 or 4, the lowest that applies.
+// Why a record is refused: it can't be read, is restricted or misplaced, the first that applies.
 
 #![tactic(auto)]
 
 ghost use Rattle.std.specs.Prelude.{◌≡◌};
-ghost use Rattle.std.specs.Prelude.{if◌then◌else◌};
+ghost use Rattle.refusal.specs.Refusal.{number_of};
 ghost use Rattle.reading.specs.Reading.{read_one};
 ghost use Rattle.judge.specs.Judge.{refusal, judged};
 
-use reading::Read;
 use record::Record;
+use refusal::Refusal;
 
-pub fn refusal_of(r: Record, waiting: u32) -> u32
-    ensures { result ≡ refusal r waiting }
+#[tactic(auto, unfolding(crate::specs::Judge::refusal))]
+pub fn refusal_of(r: Record, waiting: u32) -> Result<(), Refusal>
+    ensures { number_of result ≡ refusal r waiting }
 {
-    let fine = restricted::is_allowed(r);
-    if fine {
-        return spot_of(flow::is_misplaced(r, waiting));
+    if !restricted::is_allowed(r) {
+        return Err(Refusal::Restricted);
     }
-    3
+    if flow::is_misplaced(r, waiting) {
+        return Err(Refusal::Misplaced);
+    }
+    Ok(())
 }
 
-fn spot_of(misplaced: bool) -> u32
-    ensures { result ≡ (if misplaced then 4 else 0) }
+#[tactic(auto, unfolding(crate::specs::Judge::judged))]
+pub fn judge(r: &[u8], waiting: u32) -> Result<(), Refusal>
+    ensures { number_of result ≡ judged (read_one r.now) waiting }
 {
-    if misplaced { 4 } else { 0 }
-}
-
-pub fn judge(r: &[u8], waiting: u32) -> u32
-    ensures { result ≡ judged (read_one r.now) waiting }
-{
-    let Read::Is(found) = reading::read_all(r) else {
-        return 2;
-    };
+    let found = reading::read_all(r).ok_or(Refusal::Unreadable)?;
     refusal_of(found, waiting)
 }

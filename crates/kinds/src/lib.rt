@@ -2,20 +2,28 @@
 
 #![tactic(auto)]
 
-ghost use Rattle.std.specs.Prelude.{◌≡◌, [], ◌∷◌};
-ghost use Rattle.little.specs.Little.{number_at};
-ghost use Rattle.record.specs.declared.Record.TheVariants.{ShiftedRegister, Constant, RegisterShift, AddNumber, MoveNumber, Unary, Multiply, LongMultiply, Divide, Saturate, BitField, Extend, Access, IndexedAccess, DualAccess, MultipleAccess, Branch, RegisterBranch, CompareBranch, IfThen, TableBranch};
-ghost use Rattle.kinds.specs.Kinds.{nine, listing_length, names, form, record_of, shifted_register_from, constant_from, register_shift_from, add_number_from, move_number_from, unary_from, multiply_from, long_multiply_from, divide_from, saturate_from, bit_field_from, extend_from, access_from, indexed_access_from, dual_access_from, multiple_access_from, branch_from, register_branch_from, compare_branch_from, if_then_from, table_branch_from};
+mod bits;
 
+ghost use Rattle.std.specs.Prelude.{◌≡◌};
+ghost use Rattle.record.specs.declared.Record.TheVariants.{ShiftedRegister, Constant, RegisterShift, AddNumber, MoveNumber, Unary, Multiply, LongMultiply, Divide, Saturate, BitField, Extend, Access, IndexedAccess, DualAccess, MultipleAccess, Branch, RegisterBranch, CompareBranch, IfThen, TableBranch};
+ghost use Rattle.kinds.specs.Kinds.{nine, listing_length, names, record_of, shifted_register_from, constant_from, register_shift_from, add_number_from, move_number_from, unary_from, multiply_from, long_multiply_from, divide_from, saturate_from, bit_field_from, extend_from, access_from, indexed_access_from, dual_access_from, multiple_access_from, branch_from, register_branch_from, compare_branch_from, if_then_from, table_branch_from};
+
+use bits::{form_of, half_of, word_of};
+use record::op::{
+    AccessOp, AddOp, BranchOp, CompareOp, DataOp, DivideOp, DualOp, ExtendOp, FieldOp, LongOp,
+    Mode, MoveOp, MultipleOp, MultiplyOp, RegisterOp, SaturateOp, Shift, TableOp, UnaryOp,
+};
 use record::{
     AccessFields, AddNumberFields, BitFieldFields, BranchFields, CompareBranchFields,
-    ConstantFields, DivideFields, DualAccessFields, ExtendFields, Form, IfThenFields,
+    ConstantFields, DivideFields, DualAccessFields, ExtendFields, IfThenFields,
     IndexedAccessFields, LongMultiplyFields, MoveNumberFields, MultipleAccessFields,
     MultiplyFields, Record, RegisterBranchFields, RegisterShiftFields, SaturateFields,
     ShiftedRegisterFields, TableBranchFields, UnaryFields,
 };
 
-// The record that the bytes are, by their kind.
+// The record that the bytes are, by their kind. A kind is its byte here and in a run: `Record` is the enum of kinds, and a second one of bytes would be
+// made by one match more at each step, of a byte that the check has passed.
+#[tactic(auto, unfolding(crate::specs::Kinds::record_of, little::specs::Little::little))]
 pub fn record_from(r: [u8; 9]) -> Record
     ensures { result ≡ record_of r }
 {
@@ -49,46 +57,27 @@ pub fn record_from(r: [u8; 9]) -> Record
     }
 }
 
-fn form_of(bits: u8) -> Form
-    ensures { result ≡ form bits }
-{
-    Form {
-        s: word::bit_of(0, bits as u32),
-        wide: word::bit_of(1, bits as u32),
-    }
-}
-
-fn half_of(low: u8, high: u8) -> u16
-    ensures { result ≡ number_at 2 (low ∷ high ∷ []) 0 }
-{
-    (high as u16) << 8 | low as u16
-}
-
-fn word_of(a: u8, b: u8, c: u8, d: u8) -> u32
-    ensures { result ≡ number_at 4 (a ∷ b ∷ c ∷ d ∷ []) 0 }
-{
-    (half_of(c, d) as u32) << 16 | half_of(a, b) as u32
-}
-
+#[tactic(auto, unfolding(crate::specs::Kinds::shifted_register_from))]
 pub fn shifted_register_from(r: [u8; 9]) -> ShiftedRegisterFields
     ensures { ShiftedRegister result ≡ shifted_register_from r }
 {
     ShiftedRegisterFields {
-        op: record::op::data_op_of(r[1]),
+        op: DataOp::from(r[1]),
         form: form_of(r[2]),
         rd: r[3],
         rn: r[4],
         rm: r[5],
-        shift: record::op::shift_of(r[6]),
+        shift: Shift::from(r[6]),
         amount: r[7],
     }
 }
 
+#[tactic(auto, unfolding(crate::specs::Kinds::constant_from, little::specs::Little::little))]
 pub fn constant_from(r: [u8; 9]) -> ConstantFields
     ensures { Constant result ≡ constant_from r }
 {
     ConstantFields {
-        op: record::op::data_op_of(r[1]),
+        op: DataOp::from(r[1]),
         form: form_of(r[2]),
         rd: r[3],
         rn: r[4],
@@ -96,11 +85,12 @@ pub fn constant_from(r: [u8; 9]) -> ConstantFields
     }
 }
 
+#[tactic(auto, unfolding(crate::specs::Kinds::register_shift_from))]
 pub fn register_shift_from(r: [u8; 9]) -> RegisterShiftFields
     ensures { RegisterShift result ≡ register_shift_from r }
 {
     RegisterShiftFields {
-        shift: record::op::shift_of(r[1]),
+        shift: Shift::from(r[1]),
         form: form_of(r[2]),
         rd: r[3],
         rn: r[4],
@@ -108,11 +98,12 @@ pub fn register_shift_from(r: [u8; 9]) -> RegisterShiftFields
     }
 }
 
+#[tactic(auto, unfolding(crate::specs::Kinds::add_number_from, little::specs::Little::little))]
 pub fn add_number_from(r: [u8; 9]) -> AddNumberFields
     ensures { AddNumber result ≡ add_number_from r }
 {
     AddNumberFields {
-        op: record::op::add_op_of(r[1]),
+        op: AddOp::from(r[1]),
         form: form_of(r[2]),
         rd: r[3],
         rn: r[4],
@@ -120,33 +111,36 @@ pub fn add_number_from(r: [u8; 9]) -> AddNumberFields
     }
 }
 
+#[tactic(auto, unfolding(crate::specs::Kinds::move_number_from, little::specs::Little::little))]
 pub fn move_number_from(r: [u8; 9]) -> MoveNumberFields
     ensures { MoveNumber result ≡ move_number_from r }
 {
     MoveNumberFields {
-        op: record::op::move_op_of(r[1]),
+        op: MoveOp::from(r[1]),
         form: form_of(r[2]),
         rd: r[3],
         number: half_of(r[4], r[5]),
     }
 }
 
+#[tactic(auto, unfolding(crate::specs::Kinds::unary_from))]
 pub fn unary_from(r: [u8; 9]) -> UnaryFields
     ensures { Unary result ≡ unary_from r }
 {
     UnaryFields {
-        op: record::op::unary_op_of(r[1]),
+        op: UnaryOp::from(r[1]),
         form: form_of(r[2]),
         rd: r[3],
         rm: r[4],
     }
 }
 
+#[tactic(auto, unfolding(crate::specs::Kinds::multiply_from))]
 pub fn multiply_from(r: [u8; 9]) -> MultiplyFields
     ensures { Multiply result ≡ multiply_from r }
 {
     MultiplyFields {
-        op: record::op::multiply_op_of(r[1]),
+        op: MultiplyOp::from(r[1]),
         form: form_of(r[2]),
         rd: r[3],
         rn: r[4],
@@ -155,11 +149,12 @@ pub fn multiply_from(r: [u8; 9]) -> MultiplyFields
     }
 }
 
+#[tactic(auto, unfolding(crate::specs::Kinds::long_multiply_from))]
 pub fn long_multiply_from(r: [u8; 9]) -> LongMultiplyFields
     ensures { LongMultiply result ≡ long_multiply_from r }
 {
     LongMultiplyFields {
-        op: record::op::long_op_of(r[1]),
+        op: LongOp::from(r[1]),
         form: form_of(r[2]),
         low: r[3],
         high: r[4],
@@ -168,11 +163,12 @@ pub fn long_multiply_from(r: [u8; 9]) -> LongMultiplyFields
     }
 }
 
+#[tactic(auto, unfolding(crate::specs::Kinds::divide_from))]
 pub fn divide_from(r: [u8; 9]) -> DivideFields
     ensures { Divide result ≡ divide_from r }
 {
     DivideFields {
-        op: record::op::divide_op_of(r[1]),
+        op: DivideOp::from(r[1]),
         form: form_of(r[2]),
         rd: r[3],
         rn: r[4],
@@ -180,25 +176,27 @@ pub fn divide_from(r: [u8; 9]) -> DivideFields
     }
 }
 
+#[tactic(auto, unfolding(crate::specs::Kinds::saturate_from))]
 pub fn saturate_from(r: [u8; 9]) -> SaturateFields
     ensures { Saturate result ≡ saturate_from r }
 {
     SaturateFields {
-        op: record::op::saturate_op_of(r[1]),
+        op: SaturateOp::from(r[1]),
         form: form_of(r[2]),
         rd: r[3],
         bits: r[4],
         rm: r[5],
-        shift: record::op::shift_of(r[6]),
+        shift: Shift::from(r[6]),
         amount: r[7],
     }
 }
 
+#[tactic(auto, unfolding(crate::specs::Kinds::bit_field_from))]
 pub fn bit_field_from(r: [u8; 9]) -> BitFieldFields
     ensures { BitField result ≡ bit_field_from r }
 {
     BitFieldFields {
-        op: record::op::field_op_of(r[1]),
+        op: FieldOp::from(r[1]),
         form: form_of(r[2]),
         rd: r[3],
         rn: r[4],
@@ -207,11 +205,12 @@ pub fn bit_field_from(r: [u8; 9]) -> BitFieldFields
     }
 }
 
+#[tactic(auto, unfolding(crate::specs::Kinds::extend_from))]
 pub fn extend_from(r: [u8; 9]) -> ExtendFields
     ensures { Extend result ≡ extend_from r }
 {
     ExtendFields {
-        op: record::op::extend_op_of(r[1]),
+        op: ExtendOp::from(r[1]),
         form: form_of(r[2]),
         rd: r[3],
         rm: r[4],
@@ -219,24 +218,26 @@ pub fn extend_from(r: [u8; 9]) -> ExtendFields
     }
 }
 
+#[tactic(auto, unfolding(crate::specs::Kinds::access_from, little::specs::Little::little))]
 pub fn access_from(r: [u8; 9]) -> AccessFields
     ensures { Access result ≡ access_from r }
 {
     AccessFields {
-        op: record::op::access_op_of(r[1]),
+        op: AccessOp::from(r[1]),
         form: form_of(r[2]),
         rt: r[3],
         rn: r[4],
-        mode: record::op::mode_of(r[5]),
+        mode: Mode::from(r[5]),
         offset: word::signed_half_of(half_of(r[6], r[7])),
     }
 }
 
+#[tactic(auto, unfolding(crate::specs::Kinds::indexed_access_from))]
 pub fn indexed_access_from(r: [u8; 9]) -> IndexedAccessFields
     ensures { IndexedAccess result ≡ indexed_access_from r }
 {
     IndexedAccessFields {
-        op: record::op::access_op_of(r[1]),
+        op: AccessOp::from(r[1]),
         form: form_of(r[2]),
         rt: r[3],
         rn: r[4],
@@ -245,25 +246,27 @@ pub fn indexed_access_from(r: [u8; 9]) -> IndexedAccessFields
     }
 }
 
+#[tactic(auto, unfolding(crate::specs::Kinds::dual_access_from, little::specs::Little::little))]
 pub fn dual_access_from(r: [u8; 9]) -> DualAccessFields
     ensures { DualAccess result ≡ dual_access_from r }
 {
     DualAccessFields {
-        op: record::op::dual_op_of(r[1]),
+        op: DualOp::from(r[1]),
         form: form_of(r[2]),
         rt: r[3],
         rt2: r[4],
         rn: r[5],
-        mode: record::op::mode_of(r[6]),
+        mode: Mode::from(r[6]),
         offset: word::signed_half_of(half_of(r[7], r[8])),
     }
 }
 
+#[tactic(auto, unfolding(crate::specs::Kinds::multiple_access_from, little::specs::Little::little))]
 pub fn multiple_access_from(r: [u8; 9]) -> MultipleAccessFields
     ensures { MultipleAccess result ≡ multiple_access_from r }
 {
     MultipleAccessFields {
-        op: record::op::multiple_op_of(r[1]),
+        op: MultipleOp::from(r[1]),
         form: form_of(r[2]),
         rn: r[3],
         writeback: word::bit_of(0, r[4] as u32),
@@ -271,38 +274,42 @@ pub fn multiple_access_from(r: [u8; 9]) -> MultipleAccessFields
     }
 }
 
+#[tactic(auto, unfolding(crate::specs::Kinds::branch_from, little::specs::Little::little))]
 pub fn branch_from(r: [u8; 9]) -> BranchFields
     ensures { Branch result ≡ branch_from r }
 {
     BranchFields {
-        op: record::op::branch_op_of(r[1]),
+        op: BranchOp::from(r[1]),
         form: form_of(r[2]),
         condition: r[3],
         offset: word::signed_of(word_of(r[4], r[5], r[6], r[7])),
     }
 }
 
+#[tactic(auto, unfolding(crate::specs::Kinds::register_branch_from))]
 pub fn register_branch_from(r: [u8; 9]) -> RegisterBranchFields
     ensures { RegisterBranch result ≡ register_branch_from r }
 {
     RegisterBranchFields {
-        op: record::op::register_op_of(r[1]),
+        op: RegisterOp::from(r[1]),
         form: form_of(r[2]),
         rm: r[3],
     }
 }
 
+#[tactic(auto, unfolding(crate::specs::Kinds::compare_branch_from))]
 pub fn compare_branch_from(r: [u8; 9]) -> CompareBranchFields
     ensures { CompareBranch result ≡ compare_branch_from r }
 {
     CompareBranchFields {
-        op: record::op::compare_op_of(r[1]),
+        op: CompareOp::from(r[1]),
         form: form_of(r[2]),
         rn: r[3],
         offset: r[4],
     }
 }
 
+#[tactic(auto, unfolding(crate::specs::Kinds::if_then_from))]
 pub fn if_then_from(r: [u8; 9]) -> IfThenFields
     ensures { IfThen result ≡ if_then_from r }
 {
@@ -314,11 +321,12 @@ pub fn if_then_from(r: [u8; 9]) -> IfThenFields
     }
 }
 
+#[tactic(auto, unfolding(crate::specs::Kinds::table_branch_from))]
 pub fn table_branch_from(r: [u8; 9]) -> TableBranchFields
     ensures { TableBranch result ≡ table_branch_from r }
 {
     TableBranchFields {
-        op: record::op::table_op_of(r[1]),
+        op: TableOp::from(r[1]),
         form: form_of(r[2]),
         rn: r[3],
         rm: r[4],
@@ -331,6 +339,7 @@ const NAMES: [u8; 23] = [
 ];
 
 // The listing bytes of a kind, 0 of one that there is not. A match is a table of the program; an array would be laid out anew at each call.
+#[tactic(auto, unfolding(crate::specs::Kinds::listing_length))]
 pub fn listing_length_of(kind: u8) -> u8
     ensures { result ≡ listing_length kind }
 {
@@ -363,6 +372,7 @@ pub fn listing_length_of(kind: u8) -> u8
     }
 }
 
+#[tactic(auto, unfolding(crate::specs::Kinds::names))]
 pub fn names_of(kind: u8) -> u8
     ensures { result ≡ names kind }
 {

@@ -1,3 +1,2 @@
 pub mod Halves
-pub mod Entering
-pub mod Tabling
+pub mod Entries

@@ -1,5 +1,5 @@
 -- Blocks along the layout: the conditions that wait at a point are a good list; where none is counted nothing waits.
-use Rattle.std.proofs.Common.{◌≡◌, ℕ, ◌≤◌, Bool, true, false, not, ◌&&◌, ◌||◌, eqb, leb, List, length, sym, refl, ap, ◌∙◌, arith, eq-eqb, eqb-true, leb-false, leb-true}
+use Rattle.std.proofs.Common.{◌≡◌, ℕ, ◌≤◌, Bool, true, false, not, ◌&&◌, ◌||◌, eqb, leb, List, length, Option, Some, None, sym, refl, ap, ◌∙◌, arith, eq-eqb, eqb-true, leb-false, leb-true}
 use mathlib.Core.Bool.{false≢true}
 use Rattle.std.specs.Bool.{if◌then◌else◌}
 use Rattle.word.proofs.Cases.{both_true, neither}
@@ -14,8 +14,6 @@ use Rattle.restricted.specs.Restricted.{allowed}
 use Rattle.flow.specs.Flow.{traits, after, leaves, fills, way, misplaced}
 use Rattle.flow.proofs.Laws.{after_holds, leaves_no_filler}
 use Rattle.reading.specs.declared.Place.{Place}
-use Rattle.reading.specs.declared.ReadAt.{ReadAt}
-use Rattle.reading.specs.declared.ReadAt.TheVariants.{Found, Nothing}
 use Rattle.reading.specs.Reading.{read_at}
 use Rattle.reading.proofs.Places.{ahead}
 use Rattle.judge.specs.Judge.{refusal}
@@ -122,9 +120,9 @@ parted_aside listing p = go (eqb p.place.0 (length listing))
     judged r place true false e n = refl
     judged r place false t e n = refl
 
-    read : (x : ReadAt) → filled (judged_at x p) ≡ false → judged_at x (unparted_at p) ≡ judged_at x p
-    read (Found r place) n = judged r place (fills (way r)) p.parted refl n
-    read Nothing n = refl
+    read : (x : Option (Record × Place)) → filled (judged_at x p) ≡ false → judged_at x (unparted_at p) ≡ judged_at x p
+    read (Some (r, place)) n = judged r place (fills (way r)) p.parted refl n
+    read None n = refl
 
     go : (t : Bool) → filled (if t then AtEnd else judged_at (read_at listing p.place.0) p) ≡ false
         → ◌≡◌ {A = Met} (if t then AtEnd else judged_at (read_at listing p.place.0) (unparted_at p))

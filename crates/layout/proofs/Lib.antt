@@ -2,3 +2,4 @@ pub mod Points
 pub mod Turns
 pub mod Members
 pub mod Blocks
+pub mod Told

@@ -1,5 +1,5 @@
 -- The walk along a listing: what it meets, and where its points stand.
-use Rattle.std.proofs.Common.{◌≡◌, ℕ, zero, suc, ◌+◌, ◌-◌, ◌*◌, ◌%◌, ◌^◌, ◌<◌, ◌≤◌, Bool, true, false, ◌&&◌, eqb, leb, List, [], ◌∷◌, length, refl, ap, ◌∙◌, arith, eqb-true, leb-true}
+use Rattle.std.proofs.Common.{◌≡◌, ℕ, zero, suc, ◌+◌, ◌-◌, ◌*◌, ◌%◌, ◌^◌, ◌<◌, ◌≤◌, Bool, true, false, ◌&&◌, eqb, leb, List, [], ◌∷◌, length, Option, Some, None, refl, ap, ◌∙◌, arith, eqb-true, leb-true}
 use borrow.Author.Tests.{eqb-false}
 use Rattle.std.specs.Bool.{if◌then◌else◌}
 use Rattle.word.proofs.Cases.{both_true}
@@ -9,8 +9,6 @@ use Rattle.fields.specs.Fields.{well_formed}
 use Rattle.flow.specs.Flow.{machine_length}
 use Rattle.flow.proofs.Laws.{Lengths, machine_bytes}
 use Rattle.reading.specs.declared.Place.{Place}
-use Rattle.reading.specs.declared.ReadAt.{ReadAt}
-use Rattle.reading.specs.declared.ReadAt.TheVariants.{Found, Nothing}
 use Rattle.reading.specs.Reading.{read_at}
 use Rattle.reading.proofs.Places.{ahead}
 use Rattle.layout.specs.declared.Point.{Point}
@@ -19,13 +17,13 @@ use Rattle.layout.specs.Layout.{Met, Onward, AtEnd, Refusal, start, next, refusa
 -- what a record and the point after it say of a point
 pub record Onto (listing : List ℕ) (p : Point) (r : Record) (q : Point) : Type 0 where
   pub inside : p.place.0 ≡ length listing → ⊥
-  pub read : read_at listing p.place.0 ≡ Found r q.place
+  pub read : read_at listing p.place.0 ≡ Some (r, q.place)
   pub stands : refusal_at r p ≡ 0
   pub reached : q ≡ next r q.place p
 
 module _ (listing : List ℕ) (p : Point) where
   judged_onto : (t : Bool) (r : Record) (place : Place) (number : ℕ) → eqb number 0 ≡ t → refusal_at r p ≡ number
-      → read_at listing p.place.0 ≡ Found r place → (p.place.0 ≡ length listing → ⊥)
+      → read_at listing p.place.0 ≡ Some (r, place) → (p.place.0 ≡ length listing → ⊥)
       → (s : Record) (q : Point) → ◌≡◌ {A = Met} (if t then Onward r (next r place p) else Refusal number) (Onward s q) → Onto listing p s q
   unfolding next
   judged_onto true r place number t n f i s q e =
@@ -34,12 +32,12 @@ module _ (listing : List ℕ) (p : Point) where
       rw (← d, ← g) (record { inside = i; read = f; stands = n ∙ eqb-true number 0 t; reached = refl })
   judged_onto false r place number t n f i s q e = let z : ◌≡◌ {A = ℕ} 0 1 = cc in absurd (omega arith)
 
-  read_onto : (x : ReadAt) → read_at listing p.place.0 ≡ x → (p.place.0 ≡ length listing → ⊥)
+  read_onto : (x : Option (Record × Place)) → read_at listing p.place.0 ≡ x → (p.place.0 ≡ length listing → ⊥)
       → (r : Record) (q : Point) → judged_at x p ≡ Onward r q → Onto listing p r q
   unfolding judged_at
-  read_onto (Found r place) f i s q e =
+  read_onto (Some (r, place)) f i s q e =
       let n = refusal_at r p in judged_onto (eqb n 0) r place n refl refl f i s q e
-  read_onto Nothing f i s q e = let z : ◌≡◌ {A = ℕ} 0 1 = cc in absurd (omega arith)
+  read_onto None f i s q e = let z : ◌≡◌ {A = ℕ} 0 1 = cc in absurd (omega arith)
 
   pub onto : (r : Record) (q : Point) → meets listing p ≡ Onward r q → Onto listing p r q
   unfolding meets
@@ -51,9 +49,9 @@ module _ (listing : List ℕ) (p : Point) where
       go false t e = read_onto (read_at listing p.place.0) refl (eqb-false p.place.0 (length listing) t) r q e
 
   -- a refusal has a number, and the end is where the listing ends
-  judged_refused : (x : ReadAt) (number : ℕ) → judged_at x p ≡ Refusal number → number ≡ 0 → ⊥
+  judged_refused : (x : Option (Record × Place)) (number : ℕ) → judged_at x p ≡ Refusal number → number ≡ 0 → ⊥
   unfolding judged_at
-  judged_refused (Found r place) number e z = go (eqb n 0) refl e
+  judged_refused (Some (r, place)) number e z = go (eqb n 0) refl e
     where
       n : ℕ
       n = refusal_at r p
@@ -61,7 +59,7 @@ module _ (listing : List ℕ) (p : Point) where
       go : (t : Bool) → eqb n 0 ≡ t → ◌≡◌ {A = Met} (if t then Onward r (next r place p) else Refusal n) (Refusal number) → ⊥
       go true t f = let y : ◌≡◌ {A = ℕ} 0 1 = cc in omega arith
       go false t f = let y : n ≡ number = cc in eqb-false n 0 t (y ∙ z)
-  judged_refused Nothing number e z = let y : ◌≡◌ {A = ℕ} 2 number = cc in omega arith
+  judged_refused None number e z = let y : ◌≡◌ {A = ℕ} 2 number = cc in omega arith
 
   pub refused_number : (number : ℕ) → meets listing p ≡ Refusal number → number ≡ 0 → ⊥
   unfolding meets
@@ -75,13 +73,13 @@ module _ (listing : List ℕ) (p : Point) where
   unfolding meets judged_at
   end_place = go (eqb p.place.0 (length listing)) refl
     where
-      judged : (x : ReadAt) → judged_at x p ≡ AtEnd → ⊥
-      judged (Found r place) e = let n = refusal_at r p in chosen (eqb n 0) e
+      judged : (x : Option (Record × Place)) → judged_at x p ≡ AtEnd → ⊥
+      judged (Some (r, place)) e = let n = refusal_at r p in chosen (eqb n 0) e
         where
           chosen : (t : Bool) → ◌≡◌ {A = Met} (if t then Onward r (next r place p) else Refusal (refusal_at r p)) AtEnd → ⊥
           chosen true e = let z : ◌≡◌ {A = ℕ} 0 1 = cc in omega arith
           chosen false e = let z : ◌≡◌ {A = ℕ} 0 1 = cc in omega arith
-      judged Nothing e = let z : ◌≡◌ {A = ℕ} 0 1 = cc in omega arith
+      judged None e = let z : ◌≡◌ {A = ℕ} 0 1 = cc in omega arith
 
       go : (t : Bool) → eqb p.place.0 (length listing) ≡ t
           → ◌≡◌ {A = Met} (if t then AtEnd else judged_at (read_at listing p.place.0) p) AtEnd → p.place.0 ≡ length listing

@@ -4,10 +4,8 @@ use Rattle.record.specs.declared.Record.{Record}
 use Rattle.flow.specs.declared.Way.{Way}
 use Rattle.flow.specs.Flow.{way}
 use Rattle.layout.specs.declared.Point.{Point}
-use Rattle.layout.specs.declared.Seen.{Seen}
-use Rattle.layout.specs.declared.Seen.TheVariants.{Goes, Ends, Stops}
 use Rattle.layout.specs.Layout.{Met, Onward, AtEnd, Refusal, meets, walk, filled}
-use Rattle.layout.specs.Code.{in_64_bits, seen, seen_filled}
+use Rattle.layout.specs.Code.{Goes, Ends, Stops, in_64_bits, seen, seen_filled}
 use Rattle.layout.proofs.Points.{next_length, next_address, walk_end, walk_refused}
 
 kept_whole : (p : Point) → p.address.0 < 2 ^ 64 → in_64_bits p ≡ p
@@ -26,12 +24,12 @@ pub record Passed (listing : List ℕ) (p : Point) (w : Way) (q : Point) : Type 
   pub leads : w ≡ way what
   pub goes : meets listing p ≡ Onward what q
 
-module _ (listing : List ℕ) (p : Point) (t : Seen) (is : t ≡ seen (meets listing p)) where
-  pub passed : (w : Way) (q : Point) → t ≡ Goes w q → p.address.0 ≤ 2 ^ 33 → Passed listing p w q
+module _ (listing : List ℕ) (p : Point) where
+  pub passed : (w : Way) (q : Point) → Goes w q ≡ seen (meets listing p) → p.address.0 ≤ 2 ^ 33 → Passed listing p w q
   unfolding seen
-  passed w q e h = go (meets listing p) refl (sym is ∙ e)
+  passed w q e h = go (meets listing p) refl e
     where
-      go : (m : Met) → meets listing p ≡ m → seen m ≡ Goes w q → Passed listing p w q
+      go : (m : Met) → meets listing p ≡ m → Goes w q ≡ seen m → Passed listing p w q
       go (Onward r s) f g =
           let n = next_address listing p r s f in
           let whole = kept_whole s (omega (arith, next_length listing p r s f)) in
@@ -40,27 +38,27 @@ module _ (listing : List ℕ) (p : Point) (t : Seen) (is : t ≡ seen (meets lis
       go AtEnd f g = let z : ◌≡◌ {A = ℕ} 0 1 = cc in absurd (omega arith)
       go (Refusal number) f g = let z : ◌≡◌ {A = ℕ} 0 1 = cc in absurd (omega arith)
 
-  pub ended : t ≡ Ends → meets listing p ≡ AtEnd
+  pub ended : Ends ≡ seen (meets listing p) → meets listing p ≡ AtEnd
   unfolding seen
-  ended e = go (meets listing p) (sym is ∙ e)
+  ended = go (meets listing p)
     where
-      go : (m : Met) → seen m ≡ Ends → m ≡ AtEnd
+      go : (m : Met) → Ends ≡ seen m → m ≡ AtEnd
       go (Onward r s) f = let z : ◌≡◌ {A = ℕ} 0 1 = cc in absurd (omega arith)
       go AtEnd f = refl
       go (Refusal number) f = let z : ◌≡◌ {A = ℕ} 0 1 = cc in absurd (omega arith)
 
-  pub stopped : (number : ℕ) → t ≡ Stops number → meets listing p ≡ Refusal number
+  pub stopped : (number : ℕ) → Stops number ≡ seen (meets listing p) → meets listing p ≡ Refusal number
   unfolding seen
-  stopped number e = go (meets listing p) (sym is ∙ e)
+  stopped number = go (meets listing p)
     where
-      go : (m : Met) → seen m ≡ Stops number → m ≡ Refusal number
+      go : (m : Met) → Stops number ≡ seen m → m ≡ Refusal number
       go (Onward r s) f = let z : ◌≡◌ {A = ℕ} 0 1 = cc in absurd (omega arith)
       go AtEnd f = let z : ◌≡◌ {A = ℕ} 0 1 = cc in absurd (omega arith)
       go (Refusal n) f = let same : n ≡ number = cc in ap Refusal same
 
   -- where no record was seen the walk is over
-  pub ends_last : t ≡ Ends → (left : ℕ) → 0 < left → walk left listing p ≡ p ∷ []
+  pub ends_last : Ends ≡ seen (meets listing p) → (left : ℕ) → 0 < left → walk left listing p ≡ p ∷ []
   ends_last e left h = walk_end listing p left h (ended e)
 
-  pub stops_last : (number : ℕ) → t ≡ Stops number → (left : ℕ) → 0 < left → walk left listing p ≡ p ∷ []
+  pub stops_last : (number : ℕ) → Stops number ≡ seen (meets listing p) → (left : ℕ) → 0 < left → walk left listing p ≡ p ∷ []
   stops_last number e left h = walk_refused listing p left h number (stopped number e)

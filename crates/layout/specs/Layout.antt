@@ -1,14 +1,12 @@
 -- The layout of a listing: where each record stands, and which conditions wait there.
 -- "A place counts listing bytes, an address counts machine bytes"; the end of the listing is not taken modulo 2^32.
-use Rattle.std.specs.Prelude.{ℕ, zero, suc, ◌+◌, Bool, true, false, ◌&&◌, List, [], ◌∷◌, length, ◌==◌}
+use Rattle.std.specs.Prelude.{ℕ, zero, suc, ◌+◌, Bool, true, false, ◌&&◌, Option, Some, None, List, [], ◌∷◌, length, ◌==◌}
 use Rattle.std.specs.Bool.{if◌then◌else◌}
 use Rattle.waiting.specs.Waiting.{nothing, waiting_count}
 use Rattle.record.specs.declared.Record.{Record}
 use Rattle.flow.specs.Flow.{traits, machine_length, way, fills, after}
 use Rattle.reading.specs.Reading.{read_at}
 use Rattle.reading.specs.declared.Place.{Place}
-use Rattle.reading.specs.declared.ReadAt.{ReadAt}
-use Rattle.reading.specs.declared.ReadAt.TheVariants.{Found, Nothing}
 use Rattle.judge.specs.Judge.{refusal}
 use Rattle.layout.specs.declared.Point.{Point}
 
@@ -41,10 +39,10 @@ unfoldable pub refusal_at : Record → Point → ℕ
 refusal_at r p = if fills (way r) then (if p.parted then 0 else 4) else refusal r (waiting_count p.waiting)
 
 -- 2 where no record was read
-unfoldable pub judged_at : ReadAt → Point → Met
-judged_at (Found r place) p =
+unfoldable pub judged_at : Option (Record × Place) → Point → Met
+judged_at (Some (r, place)) p =
     let number = refusal_at r p in if number == 0 then Onward r (next r place p) else Refusal number
-judged_at Nothing p = Refusal 2
+judged_at None p = Refusal 2
 
 -- what stands at a point: the end of the listing, or what is read there
 unfoldable pub meets : List ℕ → Point → Met

@@ -3,17 +3,18 @@
 #![tactic(auto)]
 
 ghost use Rattle.std.specs.Prelude.{◌≡◌};
-ghost use Rattle.layout.specs.Layout.{start, free, refusal_at, judged_at, meets};
-ghost use Rattle.layout.specs.Code.{in_64_bits, passed, seen, seen_filled};
-ghost use Rattle.reading.specs.declared.ReadAt.TheVariants.{Found};
+ghost use Rattle.refusal.specs.Refusal.{number_of};
+ghost use Rattle.layout.specs.Layout.{start, free, refusal_at, meets};
+ghost use Rattle.layout.specs.Code.{in_64_bits, passed, seen, seen_of, seen_filled};
 
 use flow::{Traits, Way};
-use reading::{Place, ReadAt};
+use reading::Place;
 use record::Record;
+use refusal::Refusal;
 use waiting::Waiting;
 
 // An address counts machine bytes. That of the end may be past the last word.
-#[derive(Clone, Copy)]
+#[derive(Clone, Copy, Debug, PartialEq, Eq)]
 pub struct Address(pub u64);
 
 // A point of the layout: where a record or the end stands, and which conditions wait there.
@@ -26,16 +27,7 @@ pub struct Point {
     pub parted: bool,
 }
 
-// What a pass takes from a point.
-#[derive(Clone, Copy)]
-pub enum Seen {
-    // where the record goes, and the next point
-    Goes(Way, Point),
-    Ends,
-    // the number that the record is refused with
-    Stops(u32),
-}
-
+#[tactic(auto, unfolding(crate::specs::Layout::start))]
 pub fn start_of(base: u32) -> Point
     ensures { result ≡ start base }
 {
@@ -47,68 +39,57 @@ pub fn start_of(base: u32) -> Point
     }
 }
 
+#[tactic(auto, unfolding(crate::specs::Layout::free))]
 pub fn is_free(point: Point) -> bool
     ensures { result ≡ free point }
 {
     point.waiting.count() == 0
 }
 
-pub fn see(listing: &[u8], point: Point) -> Seen
-    ensures { result ≡ seen (meets listing.now point) }
+// What a pass takes from a point: where the record there goes, and the next point; nothing at the end.
+#[tactic(auto, using(refusal::proofs::Laws::some_number), unfolding(crate::specs::Layout::meets, crate::specs::Layout::judged_at, crate::specs::Layout::next, crate::specs::Code::seen, crate::specs::Code::passed, flow::specs::Flow::machine_length, flow::specs::Flow::way, flow::specs::Flow::after))]
+pub fn see(listing: &[u8], point: Point) -> Result<Option<(Way, Point)>, Refusal>
+    ensures { seen_of result ≡ seen (meets listing.now point) }
 {
-    let at = point.place.0;
-    let at_end = at == listing.len();
-    if at_end {
-        return Seen::Ends;
+    if point.place.0 == listing.len() {
+        return Ok(None);
     }
-    let ReadAt::Found(r, place) = reader::read_next(listing, Place(at)) else {
-        return Seen::Stops(2);
-    };
-    see_record(r, place, point)
+    let (r, place) = reader::read_next(listing, point.place).ok_or(Refusal::Unreadable)?;
+    refusal_at(r, point)?;
+    let t = flow::traits_of(r);
+    Ok(Some((t.way, next_of(t, place, point))))
 }
 
-fn see_record(r: Record, place: Place, point: Point) -> Seen
-    ensures { result ≡ seen (judged_at (Found r place) point) }
+#[tactic(auto, unfolding(crate::specs::Layout::refusal_at))]
+fn refusal_at(r: Record, point: Point) -> Result<(), Refusal>
+    ensures { number_of result ≡ refusal_at r point }
 {
-    let number = refusal_at(r, point);
-    let stands = number == 0;
-    if stands {
-        let t = flow::traits_of(r);
-        let way = t.way;
-        return Seen::Goes(way, next_of(t, place, point));
+    if !flow::way_of(r).fills() {
+        return judge::refusal_of(r, point.waiting.count());
     }
-    Seen::Stops(number)
+    if point.parted {
+        Ok(())
+    } else {
+        Err(Refusal::Misplaced)
+    }
 }
 
-fn refusal_at(r: Record, point: Point) -> u32
-    ensures { result ≡ refusal_at r point }
-{
-    let fills = flow::fills_of(flow::way_of(r));
-    if fills {
-        return if point.parted { 0 } else { 4 };
-    }
-    judge::refusal_of(r, point.waiting.count())
-}
-
+#[tactic(auto, unfolding(crate::specs::Code::in_64_bits, crate::specs::Code::passed))]
 fn next_of(t: Traits, place: Place, point: Point) -> Point
     ensures { result ≡ in_64_bits (passed t place point) }
 {
-    let opens = t.opens;
     Point {
-        place: place,
-        address: Address(std::num::wrapping_add_u64(point.address.0, t.length as u64)),
-        waiting: flow::opened_of(opens, point.waiting),
+        place,
+        address: Address(point.address.0.wrapping_add(t.length as u64)),
+        waiting: flow::opened_of(t.opens, point.waiting),
         parted: t.parts & is_free(point),
     }
 }
 
 // Was it a filler that was seen?
-pub fn is_filled(t: Seen) -> bool
-    ensures { result ≡ seen_filled t }
+#[tactic(auto, unfolding(crate::specs::Code::seen_filled))]
+pub fn is_filled(seen: Result<Option<(Way, Point)>, Refusal>) -> bool
+    ensures { result ≡ seen_filled (seen_of seen) }
 {
-    match t {
-        Seen::Goes(w, _) => flow::fills_of(w),
-        Seen::Ends => false,
-        Seen::Stops(_) => false,
-    }
+    matches!(seen, Ok(Some((way, _))) if way.fills())
 }

@@ -1,11 +1,15 @@
 -- Registers written, looked at, and taken back; and what the step's definitions make of a machine that is put together from its parts.
-use Rattle.std.proofs.Common.{◌≡◌, ℕ, ◌≤◌, Bool, true, false, eqb, List, length, get_or, set, sym, refl, ap, ◌∙◌, set-set}
+use Rattle.std.proofs.Common.{◌≡◌, ℕ, ◌≤◌, Bool, true, false, eqb, List, length, get_or, set, Result, Ok, Err, IsErrAnd, sym, refl, ap, ◌∙◌, set-set}
 use lib.Seq.{set-get_or}
+use Rattle.std.proofs.lemmas.Result.{err_from_is_err_and}
 use Rattle.std.specs.Bool.{if◌then◌else◌}
 use Rattle.record.specs.declared.Record.{Record}
 use Rattle.fields.specs.Fields.{well_formed}
 use Rattle.kinds.specs.Kinds.{listing_length, readings, nop_from, record_of}
 use Rattle.flags.specs.declared.Flags.{Flags}
+use Rattle.refusal.specs.declared.Refusal.{Refusal}
+use Rattle.refusal.specs.declared.Refusal.TheVariants.{Unsteady}
+use Rattle.refusal.specs.Refusal.{number_of}
 use Rattle.waiting.specs.declared.Waiting.{Waiting}
 use Rattle.machine.specs.Machine.{held, written, steady, settled, done, refused, keeping}
 use Rattle.machine.specs.Access.{storing}
@@ -26,45 +30,66 @@ back_three e p q s l m k i rn rt first second pc a b c hp hf hq hs hc hl hm hpc 
     back_two e p q m k i rn first pc a b hp hf hq (rw (← back_one q s l rt second c hc hs hl) hm) hpc hk
 
 -- R13 was looked at, and it was a multiple of 4; or not, and all is as it was
-pub stood : (e n a : List ℕ) (r : Bool) → a ≡ n → r ≡ steady_in a → r ≡ true → Settled e n a true
-stood e n a r p q t =
-    let s : steady_in n ≡ true = ap steady_in (sym p) ∙ sym q ∙ t in
-    record { told = sym s; left = rw s p }
+module _ (e n a : List ℕ) (b : Bool) (there : a ≡ n) (looked : b ≡ steady_in a) where
+  pub stood : b ≡ true → Settled e n a (Ok tt)
+  stood t =
+      let s : steady_in n ≡ true = ap steady_in (sym there) ∙ sym looked ∙ t in
+      record { told = rw s; left = rw s there }
 
-pub fell : (e n a after : List ℕ) (r : Bool) → a ≡ n → r ≡ steady_in a → r ≡ false → after ≡ e → Settled e n after false
-fell e n a after r p q t b =
-    let s : steady_in n ≡ false = ap steady_in (sym p) ∙ sym q ∙ t in
-    record { told = sym s; left = rw s b }
+  pub fell : (after : List ℕ) → b ≡ false → after ≡ e → Settled e n after (Err Unsteady)
+  fell after t back =
+      let s : steady_in n ≡ false = ap steady_in (sym there) ∙ sym looked ∙ t in
+      record { told = rw s; left = rw s back }
 
 -- ---- what `settled` and `storing` say of them
-module _ (e n x : List ℕ) (r : Bool) (s : Settled e n x r) where
-  left_next : r ≡ true → (steady_in n ≡ true) × (x ≡ n)
-  left_next t =
-      let u : steady_in n ≡ true = sym s.told ∙ t in
-      (u, s.left ∙ ap (λ (b : Bool). if b then n else e) u)
+-- by the test, R13's
+was_fine : (b : Bool) (e n x : List ℕ) (r : Result Unit Refusal) (u : Unit) → r ≡ (if b then Ok tt else Err Unsteady) → x ≡ (if b then n else e)
+    → r ≡ Ok u → (b ≡ true) × (x ≡ n)
+was_fine true e n x r u told left t = (refl, left)
+was_fine false e n x r u told left t = cc
 
-  left_before : r ≡ false → (steady_in n ≡ false) × (x ≡ e)
-  left_before t =
-      let u : steady_in n ≡ false = sym s.told ∙ t in
-      (u, s.left ∙ ap (λ (b : Bool). if b then n else e) u)
+fell_back : (b : Bool) (e n x : List ℕ) (r : Result Unit Refusal) (k : Refusal) → r ≡ (if b then Ok tt else Err Unsteady) → x ≡ (if b then n else e)
+    → r ≡ Err k → (b ≡ false) × (x ≡ e) × (k ≡ Unsteady)
+fell_back true e n x r k told left t = cc
+fell_back false e n x r k told left t = (refl, left, cc)
 
-  pub settled_fine : (f g : Flags) → r ≡ true → (w v : Waiting) → came 0 x g w v ≡ settled (assembled e f w) (assembled n g v)
-  unfolding settled steady held done refused
-  settled_fine f g t w v = let k = left_next t in rw (k.0, k.1)
+either_way : (b : Bool) (e n : List ℕ) (f : Flags) (w v : Waiting)
+    → came (number_of (if b then Ok (tt {0}) else Err Unsteady)) (if b then n else e) f w v
+    ≡ (if b then done (assembled n f v) else refused 7 (assembled e f w))
+unfolding done refused
+either_way true e n f w v = refl
+either_way false e n f w v = refl
 
-  pub settled_back : (f g : Flags) → r ≡ false → (w v : Waiting) → came 7 x f w v ≡ settled (assembled e f w) (assembled n g v)
-  unfolding settled steady held done refused
-  settled_back f g t w v = let k = left_before t in rw (k.0, k.1)
+module _ (e n x : List ℕ) (r : Result Unit Refusal) (s : Settled e n x r) where
+  -- at flags that stay
+  pub settled_so : (f : Flags) (w v : Waiting) → came (number_of r) x f w v ≡ settled (assembled e f w) (assembled n f v)
+  unfolding settled steady held
+  settled_so f w v = rw (s.told, s.left) (either_way (steady_in n) e n f w v)
 
-  pub storing_fine : (bytes after : List ℕ) (f : Flags) → r ≡ true → (w v : Waiting)
-      → keeping (came 0 x f w v) after ≡ storing (assembled e f w) (assembled n f v) bytes after
-  unfolding storing steady held done refused
-  storing_fine bytes after f t w v = let k = left_next t in rw (k.0, k.1)
+  module _ (u : Unit) (t : r ≡ Ok u) where
+    pub settled_fine : (f g : Flags) (w v : Waiting) → came 0 x g w v ≡ settled (assembled e f w) (assembled n g v)
+    unfolding settled steady held done refused
+    settled_fine f g w v = let k = was_fine (steady_in n) e n x r u s.told s.left t in rw (k.0, k.1)
 
-  pub storing_back : (bytes after : List ℕ) (f : Flags) → r ≡ false → (w v : Waiting)
-      → keeping (came 7 x f w v) bytes ≡ storing (assembled e f w) (assembled n f v) bytes after
-  unfolding storing steady held done refused
-  storing_back bytes after f t w v = let k = left_before t in rw (k.0, k.1)
+    pub storing_fine : (bytes after : List ℕ) (f : Flags) (w v : Waiting)
+        → keeping (came 0 x f w v) after ≡ storing (assembled e f w) (assembled n f v) bytes after
+    unfolding storing steady held done refused
+    storing_fine bytes after f w v = let k = was_fine (steady_in n) e n x r u s.told s.left t in rw (k.0, k.1)
+
+  -- the refusal is passed on by `?`
+  module _ (k : Refusal) (t : r ≡ Err k) (q : Result Unit Refusal) (on : IsErrAnd q (λ e. e ≡ k)) where
+    pub settled_back : (f g : Flags) (w v : Waiting) → came (number_of q) x f w v ≡ settled (assembled e f w) (assembled n g v)
+    unfolding settled steady held done refused
+    settled_back f g w v =
+        let p = err_from_is_err_and q on in
+        let h = fell_back (steady_in n) e n x r k s.told s.left t in rw (p.1, p.2, h.0, h.1, h.2)
+
+    pub storing_back : (bytes after : List ℕ) (f : Flags) (w v : Waiting)
+        → keeping (came (number_of q) x f w v) bytes ≡ storing (assembled e f w) (assembled n f v) bytes after
+    unfolding storing steady held done refused
+    storing_back bytes after f w v =
+        let p = err_from_is_err_and q on in
+        let h = fell_back (steady_in n) e n x r k s.told s.left t in rw (p.1, p.2, h.0, h.1, h.2)
 
 -- ---- parts
 module _ (x : List ℕ) (f : Flags) where

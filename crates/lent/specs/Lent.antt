@@ -1,32 +1,24 @@
 -- For the code of a run: the machine in parts, lent, and what an arm leaves of them. It is what the step's definitions say of the machine
 -- that the parts make.
-use Rattle.std.specs.Prelude.{◌≡◌, ℕ, ◌+◌, ◌%◌, ◌^◌, ◌≤◌, Bool, true, false, List, [], ◌∷◌, length, ◌==◌, nat_eq, slice_index, slice_index_or, slice_set}
+use Rattle.std.specs.Prelude.{◌≡◌, ℕ, ◌+◌, ◌%◌, ◌^◌, ◌≤◌, Bool, true, List, [], ◌∷◌, map, length, Result, Ok, Err, ◌==◌, nat_eq, nat_lt, slice_index, slice_set}
 use Rattle.std.specs.Bool.{if◌then◌else◌}
 use Rattle.little.specs.Little.{byte}
 use Rattle.address.specs.Address.{cleared}
 use Rattle.flags.specs.declared.Flags.{Flags}
+use Rattle.refusal.specs.declared.Refusal.{Refusal}
+use Rattle.refusal.specs.declared.Refusal.TheVariants.{Unsteady}
 use Rattle.waiting.specs.declared.Waiting.{Waiting}
 use Rattle.fields.specs.Fields.{well_formed}
 use Rattle.kinds.specs.Kinds.{listing_length, record_of}
 use Rattle.setup.specs.declared.Setup.{Setup}
 use Rattle.machine.specs.declared.Machine.{Machine}
-use Rattle.machine.specs.declared.Stepped.{Stepped}
+use Rattle.machine.specs.Machine.{Stepped}
 use Rattle.machine.specs.Machine.{SP, PC, kept, Outcome, keeping}
 use Rattle.machine.specs.Step.{effect}
 
 -- ---- the parts
 abbrev pub assembled : List ℕ → Flags → Waiting → Machine
 assembled registers flags waiting = record { registers = registers; flags = flags; waiting = waiting }
-
--- the flags, in the order N, Z, C, V, Q
-abbrev pub flags_in : List Bool → Flags
-flags_in marks = record {
-  n = slice_index_or marks 0 false;
-  z = slice_index_or marks 1 false;
-  c = slice_index_or marks 2 false;
-  v = slice_index_or marks 3 false;
-  q = slice_index_or marks 4 false;
-}
 
 -- a value put in a register, as `written` has it
 abbrev pub put_in : List ℕ → ℕ → ℕ → List ℕ
@@ -42,8 +34,8 @@ abbrev pub steady_in : List ℕ → Bool
 steady_in registers = slice_index registers SP % 4 == 0
 
 -- registers that were written, unless R13 came out as no multiple of 4
-pub record Settled (before next after : List ℕ) (r : Bool) : Type 0 where
-  pub told : r ≡ steady_in next
+pub record Settled (before next after : List ℕ) (r : Result Unit Refusal) : Type 0 where
+  pub told : r ≡ (if steady_in next then Ok tt else Err Unsteady)
   pub left : after ≡ (if steady_in next then next else before)
 
 -- ---- what an arm leaves
@@ -90,26 +82,19 @@ abbrev pub ObeysOn : ℕ → List ℕ → List ℕ → ℕ → List ℕ → Type
 ObeysOn number after before ahead r =
     (f : Flags) (bytes : List ℕ) (setup : Setup) → Obeys number after f bytes before f ahead r bytes setup
 
-abbrev pub ObeysMarking : ℕ → List ℕ → List Bool → List ℕ → List Bool → ℕ → List ℕ → Type 0
-ObeysMarking number after marks before were ahead r =
-    (bytes : List ℕ) (setup : Setup) → Obeys number after (flags_in marks) bytes before (flags_in were) ahead r bytes setup
+abbrev pub ObeysMarking : ℕ → List ℕ → Flags → List ℕ → Flags → ℕ → List ℕ → Type 0
+ObeysMarking number after flags before were ahead r =
+    (bytes : List ℕ) (setup : Setup) → Obeys number after flags bytes before were ahead r bytes setup
 
 abbrev pub ObeysMoving : ℕ → List ℕ → List ℕ → List ℕ → ℕ → List ℕ → List ℕ → Setup → Type 0
 ObeysMoving number after memory before ahead r bytes setup =
     (f : Flags) → Obeys number after f memory before f ahead r bytes setup
 
--- ---- the bytes of a record, by value: as many as its kind has, and zeros after them
-abbrev pub first_4 : List ℕ → List ℕ
-first_4 r = byte r 0 ∷ byte r 1 ∷ byte r 2 ∷ byte r 3 ∷ 0 ∷ 0 ∷ 0 ∷ 0 ∷ 0 ∷ []
+-- ---- the bytes of a record, by value
+-- the byte at a place below n; from n on there are zeros
+abbrev pub byte_below : ℕ → List ℕ → ℕ → ℕ
+byte_below n r at = if nat_lt at n then byte r at else 0
 
-abbrev pub first_5 : List ℕ → List ℕ
-first_5 r = byte r 0 ∷ byte r 1 ∷ byte r 2 ∷ byte r 3 ∷ byte r 4 ∷ 0 ∷ 0 ∷ 0 ∷ 0 ∷ []
-
-abbrev pub first_6 : List ℕ → List ℕ
-first_6 r = byte r 0 ∷ byte r 1 ∷ byte r 2 ∷ byte r 3 ∷ byte r 4 ∷ byte r 5 ∷ 0 ∷ 0 ∷ 0 ∷ []
-
-abbrev pub first_7 : List ℕ → List ℕ
-first_7 r = byte r 0 ∷ byte r 1 ∷ byte r 2 ∷ byte r 3 ∷ byte r 4 ∷ byte r 5 ∷ byte r 6 ∷ 0 ∷ 0 ∷ []
-
-abbrev pub first_8 : List ℕ → List ℕ
-first_8 r = byte r 0 ∷ byte r 1 ∷ byte r 2 ∷ byte r 3 ∷ byte r 4 ∷ byte r 5 ∷ byte r 6 ∷ byte r 7 ∷ 0 ∷ []
+-- as many as its kind has, and zeros after them
+abbrev pub first : ℕ → List ℕ → List ℕ
+first n r = map (byte_below n r) (0 ∷ 1 ∷ 2 ∷ 3 ∷ 4 ∷ 5 ∷ 6 ∷ 7 ∷ 8 ∷ [])

@@ -3,22 +3,20 @@
 #![tactic(auto)]
 
 ghost use Rattle.std.specs.Prelude.{◌≡◌, ◌<◌, slice_index, slice_set};
-ghost use Rattle.std.specs.Prelude.{if◌then◌else◌};
-ghost use Rattle.flags.specs.Flags.{passes, signs, all_four, saturating};
-ghost use Rattle.machine.specs.Machine.{PC, written, settled};
-ghost use Rattle.lent.specs.Lent.{flags_in, put_in, operand_in, base_in, steady_in, Settled, GoesOn};
+ghost use Rattle.machine.specs.Machine.{PC};
+ghost use Rattle.lent.specs.Lent.{put_in, operand_in, base_in, steady_in, Settled};
 
 pub mod bytes;
 
-use flags::Flags;
 use record::register;
-use sum::Sum;
+use refusal::Refusal;
 
+// That n is below 16 is asked here and below and not kept in a type: each caller would wrap the number of its record, and ask the same there.
 pub fn read(registers: &[u32; 16], n: u8) -> u32
     requires { n < 16 }
     ensures { result ≡ slice_index registers.now n }
 {
-    registers[n as usize]
+    registers[usize::from(n)]
 }
 
 // The address plus 4 of R15.
@@ -27,7 +25,7 @@ pub fn operand(registers: &[u32; 16], n: u8) -> u32
     ensures { result ≡ operand_in registers.now n }
 {
     if n == register::PC {
-        return std::num::wrapping_add_u32(registers[15], 4);
+        return registers[15].wrapping_add(4);
     }
     read(registers, n)
 }
@@ -38,7 +36,7 @@ pub fn base(registers: &[u32; 16], n: u8) -> u32
     ensures { result ≡ base_in registers.now n }
 {
     if n == register::PC {
-        return address::word_base(std::num::wrapping_add_u32(registers[15], 4));
+        return address::word_base(registers[15].wrapping_add(4));
     }
     read(registers, n)
 }
@@ -47,10 +45,11 @@ fn lay(registers: &mut [u32; 16], n: u8, value: u32)
     requires { n < 16 }
     ensures { registers.new ≡ slice_set registers.old n value }
 {
-    registers[n as usize] = value;
+    registers[usize::from(n)] = value;
 }
 
 // Every value put in R15 has bit 0 cleared.
+#[tactic(auto, unfolding(machine::specs::Machine::kept))]
 pub fn put(registers: &mut [u32; 16], n: u8, value: u32)
     requires { n < 16 }
     ensures { registers.new ≡ put_in registers.old n value }
@@ -68,23 +67,23 @@ pub fn is_steady(registers: &[u32; 16]) -> bool
     registers[13] % 4 == 0
 }
 
-// On to the next record with nothing else written.
-pub fn settle_none(registers: &mut [u32; 16], ahead: u32) -> bool
+// On to the next record with nothing else written. This and the two below write no, one and two registers: a list of writes would be walked twice on
+// the hot path, to write and to take back.
+pub fn settle_none(registers: &mut [u32; 16], ahead: u32) -> Result<(), Refusal>
     ensures { Settled registers.old (put_in registers.old PC ahead) registers.new result }
 {
     let pc = read(registers, register::PC);
     put(registers, register::PC, ahead);
-    let steady = is_steady(registers);
-    if steady {
-        return true;
+    if is_steady(registers) {
+        return Ok(());
     }
     lay(registers, register::PC, pc);
-    false
+    Err(Refusal::Unsteady)
 }
 
 // Writes, looks at R13, and takes it back where that came out as no multiple of 4: what was written last first, so that it holds also
 // where two of the registers are one.
-pub fn settle(registers: &mut [u32; 16], ahead: u32, rd: u8, value: u32) -> bool
+pub fn settle(registers: &mut [u32; 16], ahead: u32, rd: u8, value: u32) -> Result<(), Refusal>
     requires { rd < 16 }
     ensures { Settled registers.old (put_in (put_in registers.old PC ahead) rd value) registers.new result }
 {
@@ -92,13 +91,12 @@ pub fn settle(registers: &mut [u32; 16], ahead: u32, rd: u8, value: u32) -> bool
     put(registers, register::PC, ahead);
     let old = read(registers, rd);
     put(registers, rd, value);
-    let steady = is_steady(registers);
-    if steady {
-        return true;
+    if is_steady(registers) {
+        return Ok(());
     }
     lay(registers, rd, old);
     lay(registers, register::PC, pc);
-    false
+    Err(Refusal::Unsteady)
 }
 
 // Two registers, the second last.
@@ -109,7 +107,7 @@ pub fn settle_two(
     value: u32,
     other: u8,
     further: u32,
-) -> bool
+) -> Result<(), Refusal>
     requires { (one < 16) × (other < 16) }
     ensures { Settled registers.old (put_in (put_in (put_in registers.old PC ahead) one value) other further) registers.new result }
 {
@@ -119,77 +117,11 @@ pub fn settle_two(
     put(registers, one, value);
     let second = read(registers, other);
     put(registers, other, further);
-    let steady = is_steady(registers);
-    if steady {
-        return true;
+    if is_steady(registers) {
+        return Ok(());
     }
     lay(registers, other, second);
     lay(registers, one, first);
     lay(registers, register::PC, pc);
-    false
-}
-
-// A record that puts one value in a register, and no more.
-pub fn put_one(registers: &mut [u32; 16], ahead: u32, rd: u8, value: u32) -> u32
-    requires { rd < 16 }
-    ensures { GoesOn result registers.new registers.old ahead (λ m next. settled m (written next rd value)) }
-{
-    let fine = settle(registers, ahead, rd, value);
-    if fine {
-        return 0;
-    }
-    7
-}
-
-// N, Z, C and V of a result, where the record has S.
-pub fn mark(marks: &mut [bool; 5], s: bool, res: Sum)
-    ensures { flags_in marks.new ≡ (if s then all_four res (flags_in marks.old) else flags_in marks.old) }
-{
-    if s {
-        let q = marks[4];
-        let n = 0x8000_0000 <= res.value;
-        let z = res.value == 0;
-        let c = res.carry;
-        let v = res.overflow;
-        *marks = [n, z, c, v, q];
-    }
-}
-
-// N and Z.
-pub fn mark_signs(marks: &mut [bool; 5], s: bool, value: u32)
-    ensures { flags_in marks.new ≡ (if s then signs value (flags_in marks.old) else flags_in marks.old) }
-{
-    if s {
-        let c = marks[2];
-        let v = marks[3];
-        let q = marks[4];
-        let n = 0x8000_0000 <= value;
-        let z = value == 0;
-        *marks = [n, z, c, v, q];
-    }
-}
-
-pub fn mark_saturation(marks: &mut [bool; 5], saturated: bool)
-    ensures { flags_in marks.new ≡ saturating saturated (flags_in marks.old) }
-{
-    let n = marks[0];
-    let z = marks[1];
-    let c = marks[2];
-    let v = marks[3];
-    let q = marks[4] | saturated;
-    *marks = [n, z, c, v, q];
-}
-
-// Does a condition hold?
-pub fn passes(marks: &[bool; 5], condition: u8) -> bool
-    ensures { result ≡ passes (flags_in marks.now) condition }
-{
-    let flags = Flags {
-        n: marks[0],
-        z: marks[1],
-        c: marks[2],
-        v: marks[3],
-        q: marks[4],
-    };
-    flags.pass(condition)
+    Err(Refusal::Unsteady)
 }

@@ -1,3 +1,4 @@
 pub mod Passes
 pub mod Accepted
 pub mod Branches
+pub mod Told

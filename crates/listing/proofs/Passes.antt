@@ -10,8 +10,7 @@ use Rattle.layout.specs.declared.Point.{Point}
 use Rattle.layout.specs.Layout.{walk}
 use Rattle.layout.proofs.Points.{walk_on, walk_none}
 use Rattle.layout.proofs.Turns.{Passed}
-use Rattle.listing.specs.declared.Checked.{Checked}
-use Rattle.listing.specs.Check.{report, lowest}
+use Rattle.listing.specs.Check.{Checked, report, lowest}
 
 module _ (listing : List ℕ) (p : Point) (left : ℕ) (number : Point → ℕ) (whole : Checked) (so_far : lowest number (walk left listing p) ≡ whole) where
   pub pass_on : 0 < left → (w : Way) (q : Point) → Passed listing p w q → number p ≡ 0 → lowest number (walk (left - 1) listing q) ≡ whole

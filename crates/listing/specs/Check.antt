@@ -9,7 +9,12 @@ use Rattle.flow.specs.declared.Way.TheVariants.{Next, Direct, Taken, Fills}
 use Rattle.layout.specs.declared.Point.{Point}
 use Rattle.layout.specs.Layout.{Met, Onward, AtEnd, Refusal, free, meets, layout}
 use Rattle.landing.specs.Landing.{landing}
-use Rattle.listing.specs.declared.Checked.{Checked}
+use Rattle.reading.specs.declared.Place.{Place}
+
+-- the number that a listing is refused with, and where; 0 and place 0 of one that is accepted
+pub record Checked : Type 0 where
+  pub number : ℕ
+  pub place : Place
 
 abbrev pub report : ℕ → ℕ → Checked
 report number place = record { number = number; place = record { 0 = place } }

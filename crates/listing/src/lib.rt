@@ -4,85 +4,67 @@
 
 ghost use Rattle.std.specs.Prelude.{◌≡◌, ◌≤◌, eqb, length};
 ghost use Rattle.std.specs.Prelude.{if◌then◌else◌};
+ghost use Rattle.refusal.specs.Refusal.{number_of};
 ghost use Rattle.listing.specs.Check.{report, end_fault, first_pass, checked};
+ghost use Rattle.listing.specs.Code.{as_checked};
 
 mod branch;
 
-use layout::{Point, Seen};
+use layout::Point;
 use reading::Place;
+use refusal::Refusal;
 
-// The number that a listing is refused with, and where; 0 and place 0 of one that is accepted.
-#[derive(Clone, Copy)]
-pub struct Checked {
-    pub number: u32,
+// Why a listing is refused, and where.
+#[derive(Clone, Copy, Debug, PartialEq, Eq)]
+pub struct Misfit {
+    pub refusal: Refusal,
     pub place: Place,
 }
 
-pub fn check(listing: &[u8], base: u32) -> Checked
-    ensures { result ≡ checked listing.now base }
+#[tactic(auto, unfolding(crate::specs::Check::checked))]
+pub fn check(listing: &[u8], base: u32) -> Result<(), Misfit>
+    ensures { as_checked result ≡ checked listing.now base }
 {
-    let misfit = (65536 < listing.len()) | word::bit_of(0, base);
-    if misfit {
-        return Checked {
-            number: 1,
+    if (65536 < listing.len()) | word::bit_of(0, base) {
+        return Err(Misfit {
+            refusal: Refusal::Unfit,
             place: Place(0),
-        };
+        });
     }
-    let first = first_pass_of(listing, base);
-    let passed = first.number == 0;
-    if passed {
-        return branch::second_pass_of(listing, base);
-    }
-    first
+    first_pass_of(listing, base)?;
+    branch::second_pass_of(listing, base)
 }
 
-fn first_pass_of(listing: &[u8], base: u32) -> Checked
+fn first_pass_of(listing: &[u8], base: u32) -> Result<(), Misfit>
     requires { length listing.now ≤ 65536 }
-    ensures { result ≡ first_pass listing.now base }
+    ensures { as_checked result ≡ first_pass listing.now base }
 {
     let mut point = layout::start_of(base);
-    let mut left = listing.len() + 1;
-    while 0 < left {
+    for _ in 0..listing.len() + 1 {
         match layout::see(listing, point) {
-            Seen::Goes(_, next) => {
-                point = next;
-                left = left - 1;
-            }
-            Seen::Ends => return report_of(end_fault_of(point), point.place),
-            Seen::Stops(number) => return report_of(number, point.place),
+            Ok(Some((_, next))) => point = next,
+            Ok(None) => return report_of(end_fault_of(point), point.place),
+            Err(refusal) => return report_of(Err(refusal), point.place),
         }
     }
-    accept()
+    Ok(())
 }
 
-fn accept() -> Checked
-    ensures { result ≡ report 0 0 }
+fn report_of(answer: Result<(), Refusal>, place: Place) -> Result<(), Misfit>
+    ensures { as_checked result ≡ (if eqb (number_of answer) 0 then report 0 0 else report (number_of answer) place.0) }
 {
-    Checked {
-        number: 0,
-        place: Place(0),
-    }
+    answer.map_err(|refusal| Misfit { refusal, place })
 }
 
-fn report_of(number: u32, place: Place) -> Checked
-    ensures { result ≡ (if eqb number 0 then report 0 0 else report number place.0) }
+#[tactic(auto, unfolding(crate::specs::Check::end_fault))]
+fn end_fault_of(point: Point) -> Result<(), Refusal>
+    ensures { number_of result ≡ end_fault point }
 {
-    let none = number == 0;
-    if none {
-        return accept();
-    }
-    Checked { number, place }
-}
-
-fn end_fault_of(point: Point) -> u32
-    ensures { result ≡ end_fault point }
-{
-    let open = !layout::is_free(point);
-    if open {
-        return 4;
+    if !layout::is_free(point) {
+        return Err(Refusal::Misplaced);
     }
     if 0xffff_fffe < point.address.0 {
-        return 1;
+        return Err(Refusal::Unfit);
     }
-    0
+    Ok(())
 }

@@ -45,6 +45,10 @@ pub one_byte : (xs : List ℕ) (at : ℕ) → number_at 1 xs at ≡ byte xs at
 unfolding little
 one_byte xs at = rw (add-zero at) (omega arith)
 
+pub two_bytes : (xs : List ℕ) (at : ℕ) → number_at 2 xs at ≡ byte xs at + byte xs (at + 1) * 2 ^ 8
+unfolding little
+two_bytes xs at = rw (add-zero at) (omega arith)
+
 pub past : (k : ℕ) (xs : List ℕ) (at : ℕ) → length xs ≤ at → number_at k xs at ≡ 0
 unfolding little
 past zero xs at h = refl

@@ -8,7 +8,7 @@ ghost use Rattle.little.specs.Little.{byte, number_at};
 pub fn byte_at(xs: &[u8], at: usize) -> u8
     ensures { result ≡ byte xs.now at }
 {
-    if at < xs.len() { xs[at] } else { 0 }
+    xs.get(at).copied().unwrap_or(0)
 }
 
 pub fn half_at(xs: &[u8], at: usize) -> u16
@@ -17,7 +17,7 @@ pub fn half_at(xs: &[u8], at: usize) -> u16
     if xs.len() <= at {
         return 0;
     }
-    (byte_at(xs, at + 1) as u16) << 8 | byte_at(xs, at) as u16
+    u16::from_le_bytes([byte_at(xs, at), byte_at(xs, at + 1)])
 }
 
 pub fn word_at(xs: &[u8], at: usize) -> u32
@@ -26,5 +26,5 @@ pub fn word_at(xs: &[u8], at: usize) -> u32
     if xs.len() <= at {
         return 0;
     }
-    (half_at(xs, at + 2) as u32) << 16 | half_at(xs, at) as u32
+    u32::from(half_at(xs, at + 2)) << 16 | u32::from(half_at(xs, at))
 }

@@ -17,8 +17,7 @@ use Rattle.record.specs.declared.MultipleAccessFields.{MultipleAccessFields}
 use Rattle.transfer.specs.declared.Alignment.TheVariants.{Word}
 use Rattle.transfer.specs.Transfer.{width, load_value, after_store, reached, alignment, access_refusal, list_size, lowest_address, new_base, slot, list_stored}
 use Rattle.machine.specs.declared.Machine.{Machine}
-use Rattle.machine.specs.declared.Stepped.{Stepped}
-use Rattle.machine.specs.Machine.{PC, held, operand_value, base_value, written, refused, done, steady, settled, landed, Outcome, keeping}
+use Rattle.machine.specs.Machine.{Stepped, PC, held, operand_value, base_value, written, refused, done, steady, settled, landed, Outcome, keeping}
 
 -- a store, made unless it is refused with 7 for R13
 unfoldable pub storing : Machine → Machine → List ℕ → List ℕ → Outcome

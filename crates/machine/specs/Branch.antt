@@ -17,8 +17,7 @@ use Rattle.memory.specs.Memory.{loaded}
 use Rattle.transfer.specs.declared.Alignment.TheVariants.{Byte}
 use Rattle.transfer.specs.Transfer.{access_refusal, entry_width, entry_address, table_target}
 use Rattle.machine.specs.declared.Machine.{Machine}
-use Rattle.machine.specs.declared.Stepped.{Stepped}
-use Rattle.machine.specs.Machine.{PC, LR, held, operand_value, written, refused, done, landed}
+use Rattle.machine.specs.Machine.{Stepped, PC, LR, held, operand_value, written, refused, done, landed}
 
 -- "BL, BLX set R14 to the next address with bit 0 set"
 unfoldable pub linking : Machine → Bool → Machine

@@ -24,8 +24,7 @@ use Rattle.record.specs.declared.ExtendFields.{ExtendFields}
 use Rattle.operate.specs.Operate.{shifter, constant_operand, operated, added, placed_number, unary_result, multiplied, multiplied_long, divided, saturated, fielded, extended}
 use Rattle.setup.specs.declared.Setup.{Setup}
 use Rattle.machine.specs.declared.Machine.{Machine}
-use Rattle.machine.specs.declared.Stepped.{Stepped}
-use Rattle.machine.specs.Machine.{operand_value, base_value, written, with_flags, settled}
+use Rattle.machine.specs.Machine.{Stepped, operand_value, base_value, written, with_flags, settled}
 
 -- "N, Z, C, V change only with S."
 unfoldable pub flagged : Machine → Bool → Sum → Machine

@@ -1,6 +1,6 @@
 -- "Sixteen 32-bit registers are held by value as one array in the machine, beside flags N, Z, C, V, Q and a list of zero to four
 -- waiting conditions. R15 is the address of the record to be stepped."
-use Rattle.std.specs.Prelude.{ℕ, ◌+◌, ◌%◌, ◌^◌, Bool, ◌&&◌, List, replicate, ◌==◌, slice_index, slice_set}
+use Rattle.std.specs.Prelude.{ℕ, ◌+◌, ◌%◌, ◌^◌, Bool, ◌&&◌, List, Result, Ok, Err, replicate, ◌==◌, slice_index, slice_set}
 use Rattle.std.specs.Bool.{if◌then◌else◌}
 use Rattle.word.specs.Word.{bit}
 use Rattle.address.specs.Address.{cleared}
@@ -9,9 +9,10 @@ use Rattle.flags.specs.Flags.{clear, passes}
 use Rattle.waiting.specs.declared.Waiting.{Waiting}
 use Rattle.waiting.specs.Waiting.{none, nothing, good_waiting, dropped}
 use Rattle.record.specs.declared.Record.{Record}
+use Rattle.refusal.specs.declared.Refusal.{Refusal}
+use Rattle.refusal.specs.Refusal.{number}
 use Rattle.flow.specs.Flow.{machine_length, after, own_condition}
 use Rattle.machine.specs.declared.Machine.{Machine}
-use Rattle.machine.specs.declared.Stepped.{Stepped}
 
 abbrev pub SP : ℕ
 SP = 13
@@ -80,6 +81,11 @@ skipped m r = with_waiting (advanced m (machine_length r)) (dropped m.waiting)
 unfoldable pub onward : Machine → Record → Machine
 onward m r = with_waiting (advanced m (machine_length r)) (after r m.waiting)
 
+-- a step's number, and the machine after it
+pub record Stepped : Type 0 where
+  pub number : ℕ
+  pub machine : Machine
+
 -- a refused step hands back the machine as given
 unfoldable pub refused : ℕ → Machine → Stepped
 refused number m = record { number = number; machine = m }
@@ -98,6 +104,11 @@ settled m next = if steady next then done next else refused 7 m
 -- 7: "value for R15 has bit 0 clear"
 unfoldable pub landed : Machine → Machine → ℕ → Stepped
 landed m next value = if bit 0 value then settled m next else refused 7 m
+
+-- what the code answers for a machine, the next one or why there is none
+abbrev pub answered : Machine → Result Machine Refusal → Stepped
+answered m (Ok next) = done next
+answered m (Err refusal) = refused (number refusal) m
 
 -- the outcome of a step: its answer, and memory after it
 pub record Outcome : Type 0 where

@@ -1,14 +1,12 @@
 -- "A step takes the machine and a record and hands back the next machine." "The lowest number that applies to a step is given."
 -- "A refused step writes nothing."
-use Rattle.std.specs.Prelude.{ℕ, ◌&&◌, List, ◌==◌}
+use Rattle.std.specs.Prelude.{ℕ, ◌&&◌, List, Option, Some, None, ◌==◌}
 use Rattle.std.specs.Bool.{if◌then◌else◌}
 use Rattle.waiting.specs.Waiting.{waiting_count}
 use Rattle.setup.specs.declared.Setup.{Setup}
 use Rattle.setup.specs.Setup.{fits}
 use Rattle.record.specs.declared.Record.{Record}
 use Rattle.record.specs.declared.Record.TheVariants.{ShiftedRegister, Constant, RegisterShift, AddNumber, MoveNumber, Unary, Multiply, LongMultiply, Divide, Saturate, BitField, Extend, Access, IndexedAccess, DualAccess, MultipleAccess, Branch, RegisterBranch, CompareBranch, IfThen, Nop, TableBranch, Filler}
-use Rattle.reading.specs.declared.Read.{Read}
-use Rattle.reading.specs.declared.Read.TheVariants.{Is, Refused}
 use Rattle.reading.specs.Reading.{read_one}
 use Rattle.judge.specs.Judge.{refusal}
 use Rattle.machine.specs.declared.Machine.{Machine}
@@ -49,9 +47,9 @@ obeyed m r bytes setup =
     if condition_passes m r then effect m (onward m r) r bytes setup else keeping (done (skipped m r)) bytes
 
 -- 2, then 3 and 4
-unfoldable pub considered : Machine → Read → List ℕ → Setup → Outcome
-considered m Refused bytes setup = keeping (refused 2 m) bytes
-considered m (Is r) bytes setup =
+unfoldable pub considered : Machine → Option Record → List ℕ → Setup → Outcome
+considered m None bytes setup = keeping (refused 2 m) bytes
+considered m (Some r) bytes setup =
     let number = refusal r (waiting_count m.waiting) in
     if number == 0 then obeyed m r bytes setup else keeping (refused number m) bytes
 

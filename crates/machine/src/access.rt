@@ -4,47 +4,48 @@
 ghost use Rattle.std.specs.Prelude.{◌≡◌};
 ghost use Rattle.machine.specs.Access.{storing, based, arriving, access_made, access_done, access_effect, indexed_access_effect, dual_made, dual_access_effect, list_loaded, list_arriving, multiple_made, multiple_access_effect};
 ghost use Rattle.std.specs.Prelude.{if◌then◌else◌};
-ghost use Rattle.memory.specs.Memory.{loaded};
-ghost use Rattle.machine.specs.Machine.{written, landed, keeping};
+ghost use Rattle.machine.specs.Machine.{written, landed, answered, keeping};
 
-use crate::{Machine, Stepped};
+use crate::Machine;
 use record::op::{AccessOp, Mode};
 use record::{AccessFields, DualAccessFields, IndexedAccessFields, MultipleAccessFields};
+use refusal::Refusal;
 use setup::Setup;
 use transfer::Alignment;
 
 // A value for R15 must have bit 0 set.
-pub fn land(m: Machine, next: Machine, value: u32) -> Stepped
-    ensures { result ≡ landed m next value }
+#[tactic(auto, unfolding(crate::specs::Machine::landed))]
+pub fn land(next: Machine, value: u32) -> Result<Machine, Refusal>
+    ensures { (m : Machine) → answered m result ≡ landed m next value }
 {
-    let odd = word::bit_of(0, value);
-    if odd {
-        return crate::settle(m, next);
+    if !word::bit_of(0, value) {
+        return Err(Refusal::Unsteady);
     }
-    crate::refuse(7, m)
+    next.settle()
 }
 
+#[tactic(auto, unfolding(crate::specs::Access::based))]
 fn write_back(next: Machine, mode: Mode, rn: u8, to: u32) -> Machine
     ensures { result ≡ based next mode rn to }
 {
-    let plain = record::op::is_offset_of(mode);
-    if plain {
+    if mode.is_offset() {
         return next;
     }
     next.write(rn, to)
 }
 
-fn arrive(m: Machine, back: Machine, rt: u8, value: u32) -> Stepped
-    ensures { result ≡ arriving m back rt value }
+#[tactic(auto, unfolding(crate::specs::Access::arriving))]
+fn arrive(back: Machine, rt: u8, value: u32) -> Result<Machine, Refusal>
+    ensures { (m : Machine) → answered m result ≡ arriving m back rt value }
 {
     let after = back.write(rt, value);
-    let leaves = rt == Machine::PC;
-    if leaves {
-        return land(m, after, value);
+    if rt == Machine::PC {
+        return land(after, value);
     }
-    crate::settle(m, after)
+    after.settle()
 }
 
+#[tactic(auto, unfolding(crate::specs::Access::access_made, crate::specs::Access::storing))]
 fn make_access(
     m: Machine,
     back: Machine,
@@ -53,21 +54,20 @@ fn make_access(
     address: u32,
     memory: &mut [u8],
     setup: Setup,
-) -> Stepped
-    ensures { keeping result memory.new ≡ access_made m back op rt address memory.old setup }
+) -> Result<Machine, Refusal>
+    ensures { keeping (answered m result) memory.new ≡ access_made m back op rt address memory.old setup }
 {
-    let loads = record::op::loads_of(op);
-    if loads {
-        return arrive(m, back, rt, transfer::load(op, setup, memory, address));
+    if op.loads() {
+        return arrive(back, rt, transfer::load(op, setup, memory, address));
     }
-    let steady = crate::is_steady(back);
-    if steady {
-        transfer::store(op, setup, memory, address, m.register(rt));
-        return crate::finish(back);
+    if !back.is_steady() {
+        return Err(Refusal::Unsteady);
     }
-    crate::refuse(7, m)
+    transfer::store(op, setup, memory, address, m.register(rt));
+    Ok(back)
 }
 
+#[tactic(auto, unfolding(crate::specs::Access::access_done))]
 fn do_access(
     m: Machine,
     back: Machine,
@@ -76,58 +76,47 @@ fn do_access(
     address: u32,
     memory: &mut [u8],
     setup: Setup,
-) -> Stepped
-    ensures { keeping result memory.new ≡ access_done m back op rt address memory.old setup }
+) -> Result<Machine, Refusal>
+    ensures { keeping (answered m result) memory.new ≡ access_done m back op rt address memory.old setup }
 {
     let wanted = transfer::alignment_of(op, rt == Machine::PC);
-    let refusal = transfer::refusal_of(wanted, transfer::width_of(op), setup, memory, address);
-    let fine = refusal == 0;
-    if fine {
-        return make_access(m, back, op, rt, address, memory, setup);
-    }
-    crate::refuse(refusal, m)
+    transfer::refusal_of(wanted, transfer::width_of(op), setup, memory, address)?;
+    make_access(m, back, op, rt, address, memory, setup)
 }
 
+#[tactic(auto, unfolding(crate::specs::Access::access_effect))]
 pub fn access_one(
     m: Machine,
     next: Machine,
     d: AccessFields,
     memory: &mut [u8],
     setup: Setup,
-) -> Stepped
-    ensures { keeping result memory.new ≡ access_effect m next d memory.old setup }
+) -> Result<Machine, Refusal>
+    ensures { keeping (answered m result) memory.new ≡ access_effect m next d memory.old setup }
 {
-    let op = d.op;
-    let mode = d.mode;
     let base = m.base(d.rn);
     let to = transfer::moved_by(base, d.offset);
-    let back = write_back(next, mode, d.rn, to);
-    do_access(
-        m,
-        back,
-        op,
-        d.rt,
-        transfer::reached_of(mode, base, to),
-        memory,
-        setup,
-    )
+    let back = write_back(next, d.mode, d.rn, to);
+    let address = transfer::reached_of(d.mode, base, to);
+    do_access(m, back, d.op, d.rt, address, memory, setup)
 }
 
+#[tactic(auto, unfolding(crate::specs::Access::indexed_access_effect))]
 pub fn access_indexed(
     m: Machine,
     next: Machine,
     d: IndexedAccessFields,
     memory: &mut [u8],
     setup: Setup,
-) -> Stepped
-    ensures { keeping result memory.new ≡ indexed_access_effect m next d memory.old setup }
+) -> Result<Machine, Refusal>
+    ensures { keeping (answered m result) memory.new ≡ indexed_access_effect m next d memory.old setup }
 {
-    let op = d.op;
     let offset = shift::lsl(m.operand(d.rm), d.amount as u32, false);
-    let address = std::num::wrapping_add_u32(m.base(d.rn), offset.value);
-    do_access(m, next, op, d.rt, address, memory, setup)
+    let address = m.base(d.rn).wrapping_add(offset.value);
+    do_access(m, next, d.op, d.rt, address, memory, setup)
 }
 
+#[tactic(auto, unfolding(crate::specs::Access::dual_made, crate::specs::Access::storing))]
 fn make_two(
     m: Machine,
     back: Machine,
@@ -135,141 +124,103 @@ fn make_two(
     address: u32,
     memory: &mut [u8],
     setup: Setup,
-) -> Stepped
-    ensures { keeping result memory.new ≡ dual_made m back d address memory.old setup }
+) -> Result<Machine, Refusal>
+    ensures { keeping (answered m result) memory.new ≡ dual_made m back d address memory.old setup }
 {
-    let op = d.op;
-    let second = std::num::wrapping_add_u32(address, 4);
-    let loads = record::op::loads_dual_of(op);
-    if loads {
+    let second = address.wrapping_add(4);
+    if d.op.loads() {
         let first = back.write(d.rt, memory::load_word(memory, setup, address));
-        return crate::settle(
-            m,
-            first.write(d.rt2, memory::load_word(memory, setup, second)),
-        );
+        return first
+            .write(d.rt2, memory::load_word(memory, setup, second))
+            .settle();
     }
-    let steady = crate::is_steady(back);
-    if steady {
-        memory::store_word(memory, setup, address, m.register(d.rt));
-        memory::store_word(memory, setup, second, m.register(d.rt2));
-        return crate::finish(back);
+    if !back.is_steady() {
+        return Err(Refusal::Unsteady);
     }
-    crate::refuse(7, m)
+    memory::store_word(memory, setup, address, m.register(d.rt));
+    memory::store_word(memory, setup, second, m.register(d.rt2));
+    Ok(back)
 }
 
+#[tactic(auto, unfolding(crate::specs::Access::dual_access_effect, crate::specs::Access::dual_made))]
 pub fn access_two(
     m: Machine,
     next: Machine,
     d: DualAccessFields,
     memory: &mut [u8],
     setup: Setup,
-) -> Stepped
-    ensures { keeping result memory.new ≡ dual_access_effect m next d memory.old setup }
+) -> Result<Machine, Refusal>
+    ensures { keeping (answered m result) memory.new ≡ dual_access_effect m next d memory.old setup }
 {
-    let mode = d.mode;
     let base = m.base(d.rn);
     let to = transfer::moved_by(base, d.offset);
-    let address = transfer::reached_of(mode, base, to);
-    let refusal = transfer::refusal_of(Alignment::Word, 8, setup, memory, address);
-    let fine = refusal == 0;
-    if fine {
-        return make_two(
-            m,
-            write_back(next, mode, d.rn, to),
-            d,
-            address,
-            memory,
-            setup,
-        );
-    }
-    crate::refuse(refusal, m)
+    let address = transfer::reached_of(d.mode, base, to);
+    transfer::refusal_of(Alignment::Word, 8, setup, memory, address)?;
+    let next = write_back(next, d.mode, d.rn, to);
+    make_two(m, next, d, address, memory, setup)
 }
 
+#[tactic(auto, using(crate::proofs::Laws::loaded_next, transfer::proofs::Laws::slot_first, transfer::proofs::Laws::slot_next), unfolding(crate::specs::Access::list_loaded))]
 fn load_list(back: Machine, list: u16, low: u32, memory: &[u8], setup: Setup) -> Machine
     ensures { result ≡ list_loaded 16 back list low memory.now setup }
 {
     let mut machine = back;
     let mut address = low;
-    let mut i: u8 = 0;
-    while i < 16 {
-        let listed = register_list::holds(list, i as u32);
-        machine = load_one(machine, listed, i, address, memory, setup);
-        address = transfer::next_slot(listed, address);
-        i += 1;
+    for i in 0..16u8 {
+        if register_list::holds(list, u32::from(i)) {
+            machine = machine.write(i, memory::load_word(memory, setup, address));
+            address = address.wrapping_add(4);
+        }
     }
     machine
 }
 
-fn load_one(
-    machine: Machine,
-    listed: bool,
-    number: u8,
-    address: u32,
-    memory: &[u8],
-    setup: Setup,
-) -> Machine
-    ensures { result ≡ (if listed then written machine number (loaded 4 setup memory.now address) else machine) }
-{
-    if listed {
-        return machine.write(number, memory::load_word(memory, setup, address));
-    }
-    machine
-}
-
+#[tactic(auto, unfolding(crate::specs::Access::list_arriving))]
 fn arrive_list(
-    m: Machine,
     back: Machine,
     list: u16,
     low: u32,
     memory: &[u8],
     setup: Setup,
-) -> Stepped
-    ensures { result ≡ list_arriving m back list low memory.now setup }
+) -> Result<Machine, Refusal>
+    ensures { (m : Machine) → answered m result ≡ list_arriving m back list low memory.now setup }
 {
     let after = load_list(back, list, low, memory, setup);
-    let leaves = register_list::holds(list, Machine::PC as u32);
-    if leaves {
-        return land(
-            m,
-            after,
-            memory::load_word(memory, setup, transfer::slot_of(list, low, Machine::PC)),
-        );
+    if register_list::holds(list, u32::from(Machine::PC)) {
+        let slot = transfer::slot_of(list, low, Machine::PC);
+        return land(after, memory::load_word(memory, setup, slot));
     }
-    crate::settle(m, after)
+    after.settle()
 }
 
 fn write_list_base(next: Machine, d: MultipleAccessFields, to: u32) -> Machine
     ensures { result ≡ (if d.writeback then written next d.rn to else next) }
 {
-    let writes = d.writeback;
-    if writes {
+    if d.writeback {
         return next.write(d.rn, to);
     }
     next
 }
 
+#[tactic(auto, unfolding(crate::specs::Access::multiple_access_effect))]
 pub fn access_many(
     m: Machine,
     next: Machine,
     d: MultipleAccessFields,
     memory: &mut [u8],
     setup: Setup,
-) -> Stepped
-    ensures { keeping result memory.new ≡ multiple_access_effect m next d memory.old setup }
+) -> Result<Machine, Refusal>
+    ensures { keeping (answered m result) memory.new ≡ multiple_access_effect m next d memory.old setup }
 {
-    let op = d.op;
     let base = m.register(d.rn);
     let size = transfer::list_size_of(d.list);
-    let low = transfer::lowest_address_of(op, base, size);
-    let refusal = transfer::refusal_of(Alignment::Word, size, setup, memory, low);
-    let fine = refusal == 0;
-    if fine {
-        let back = write_list_base(next, d, transfer::new_base_of(op, base, size));
-        return make_many(m, back, d, low, memory, setup);
-    }
-    crate::refuse(refusal, m)
+    let low = transfer::lowest_address_of(d.op, base, size);
+    transfer::refusal_of(Alignment::Word, size, setup, memory, low)?;
+    let back = write_list_base(next, d, transfer::new_base_of(d.op, base, size));
+    make_many(m, back, d, low, memory, setup)
 }
 
+#[tactic(auto, unfolding(crate::specs::Access::multiple_made, crate::specs::Access::storing))]
 fn make_many(
     m: Machine,
     back: Machine,
@@ -277,19 +228,15 @@ fn make_many(
     low: u32,
     memory: &mut [u8],
     setup: Setup,
-) -> Stepped
-    ensures { keeping result memory.new ≡ multiple_made m back d low memory.old setup }
+) -> Result<Machine, Refusal>
+    ensures { keeping (answered m result) memory.new ≡ multiple_made m back d low memory.old setup }
 {
-    let op = d.op;
-    let loads = record::op::loads_many_of(op);
-    if loads {
-        return arrive_list(m, back, d.list, low, memory, setup);
+    if d.op.loads() {
+        return arrive_list(back, d.list, low, memory, setup);
     }
-    let steady = crate::is_steady(back);
-    if steady {
-        let registers = m.registers;
-        transfer::store_list(setup, memory, registers, d.list, low);
-        return crate::finish(back);
+    if !back.is_steady() {
+        return Err(Refusal::Unsteady);
     }
-    crate::refuse(7, m)
+    transfer::store_list(setup, memory, m.registers, d.list, low);
+    Ok(back)
 }

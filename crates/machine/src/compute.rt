@@ -1,9 +1,11 @@
 // Kinds 01 to 0C: m is the machine before, from which all is read, next the machine at the next record.
 
 ghost use Rattle.std.specs.Prelude.{◌≡◌};
+ghost use Rattle.setup.specs.declared.Setup.{Setup};
+ghost use Rattle.machine.specs.Machine.{answered};
 ghost use Rattle.machine.specs.Compute.{flagged, resulting, data_done, register_amount, shifted_register_effect, constant_effect, register_shift_effect, add_number_effect, move_number_effect, unary_effect, multiply_effect, long_multiply_effect, divide_effect, saturate_effect, bit_field_effect, extend_effect};
 
-use crate::{Machine, Stepped};
+use crate::Machine;
 use product::Long;
 use record::op::DataOp;
 use record::{
@@ -11,31 +13,32 @@ use record::{
     LongMultiplyFields, MoveNumberFields, MultiplyFields, RegisterShiftFields, SaturateFields,
     ShiftedRegisterFields, UnaryFields,
 };
-use setup::Setup;
+use refusal::Refusal;
 use shift::Shifted;
 use sum::Sum;
 
+#[tactic(auto, unfolding(crate::specs::Compute::flagged))]
 fn set_flags(next: Machine, s: bool, res: Sum) -> Machine
     ensures { result ≡ flagged next s res }
 {
     if s {
-        let flags = next.flags;
-        return next.with_flags(flags.with_all(res));
+        return next.with_flags(next.flags.with_all(res));
     }
     next
 }
 
 // CMP, CMN, TST and TEQ put nothing in a register.
+#[tactic(auto, unfolding(crate::specs::Compute::resulting))]
 fn put_result(next: Machine, op: DataOp, rd: u8, res: Sum) -> Machine
     ensures { result ≡ resulting next op rd res }
 {
-    let puts = record::op::data_code_of(op) < 12;
-    if puts {
+    if op.code() < 12 {
         return next.write(rd, res.value);
     }
     next
 }
 
+#[tactic(auto, unfolding(crate::specs::Compute::data_done))]
 fn operate(m: Machine, next: Machine, op: DataOp, s: bool, rd: u8, x: u32, y: Shifted) -> Machine
     ensures { result ≡ data_done m next op s rd x y }
 {
@@ -43,132 +46,138 @@ fn operate(m: Machine, next: Machine, op: DataOp, s: bool, rd: u8, x: u32, y: Sh
     set_flags(put_result(next, op, rd, result), s, result)
 }
 
-pub fn shift_register(m: Machine, next: Machine, d: ShiftedRegisterFields, setup: Setup) -> Stepped
-    ensures { result ≡ shifted_register_effect m next d setup }
+#[tactic(auto, unfolding(crate::specs::Compute::shifted_register_effect))]
+pub fn shift_register(
+    m: Machine,
+    next: Machine,
+    d: ShiftedRegisterFields,
+) -> Result<Machine, Refusal>
+    ensures { (setup : Setup) → answered m result ≡ shifted_register_effect m next d setup }
 {
-    let op = d.op;
-    let shift = d.shift;
-    let y = operate::shifter_of(shift, m.operand(d.rm), d.amount as u32, m.flags.c);
-    crate::settle(m, operate(m, next, op, d.form.s, d.rd, m.operand(d.rn), y))
+    let y = operate::shifter_of(d.shift, m.operand(d.rm), d.amount as u32, m.flags.c);
+    operate(m, next, d.op, d.form.s, d.rd, m.operand(d.rn), y).settle()
 }
 
-pub fn operate_constant(m: Machine, next: Machine, d: ConstantFields, setup: Setup) -> Stepped
-    ensures { result ≡ constant_effect m next d setup }
+#[tactic(auto, unfolding(crate::specs::Compute::constant_effect))]
+pub fn operate_constant(m: Machine, next: Machine, d: ConstantFields) -> Result<Machine, Refusal>
+    ensures { (setup : Setup) → answered m result ≡ constant_effect m next d setup }
 {
-    let op = d.op;
     let y = operate::constant_operand_of(d.constant, m.flags.c);
-    crate::settle(m, operate(m, next, op, d.form.s, d.rd, m.operand(d.rn), y))
+    operate(m, next, d.op, d.form.s, d.rd, m.operand(d.rn), y).settle()
 }
 
 // The amount of kind 03: the lowest eight bits of what Rs holds.
+#[tactic(auto, unfolding(crate::specs::Compute::register_amount))]
 fn register_amount_of(rs: u32) -> u32
     ensures { result ≡ register_amount rs }
 {
     rs % 256
 }
 
-pub fn shift_by_register(m: Machine, next: Machine, d: RegisterShiftFields, setup: Setup) -> Stepped
-    ensures { result ≡ register_shift_effect m next d setup }
+#[tactic(auto, unfolding(crate::specs::Compute::register_shift_effect))]
+pub fn shift_by_register(
+    m: Machine,
+    next: Machine,
+    d: RegisterShiftFields,
+) -> Result<Machine, Refusal>
+    ensures { (setup : Setup) → answered m result ≡ register_shift_effect m next d setup }
 {
-    let shift = d.shift;
     let amount = register_amount_of(m.operand(d.rs));
-    let y = operate::shifter_of(shift, m.operand(d.rn), amount, m.flags.c);
-    crate::settle(m, operate(m, next, DataOp::Mov, d.form.s, d.rd, 0, y))
+    let y = operate::shifter_of(d.shift, m.operand(d.rn), amount, m.flags.c);
+    operate(m, next, DataOp::Mov, d.form.s, d.rd, 0, y).settle()
 }
 
-pub fn add_a_number(m: Machine, next: Machine, d: AddNumberFields, setup: Setup) -> Stepped
-    ensures { result ≡ add_number_effect m next d setup }
+#[tactic(auto, unfolding(crate::specs::Compute::add_number_effect))]
+pub fn add_a_number(m: Machine, next: Machine, d: AddNumberFields) -> Result<Machine, Refusal>
+    ensures { (setup : Setup) → answered m result ≡ add_number_effect m next d setup }
 {
-    let op = d.op;
-    crate::settle(
-        m,
-        next.write(d.rd, operate::add(op, m.base(d.rn), d.number as u32)),
-    )
+    next.write(d.rd, operate::add(d.op, m.base(d.rn), d.number as u32))
+        .settle()
 }
 
-pub fn move_a_number(m: Machine, next: Machine, d: MoveNumberFields, setup: Setup) -> Stepped
-    ensures { result ≡ move_number_effect m next d setup }
+#[tactic(auto, unfolding(crate::specs::Compute::move_number_effect))]
+pub fn move_a_number(m: Machine, next: Machine, d: MoveNumberFields) -> Result<Machine, Refusal>
+    ensures { (setup : Setup) → answered m result ≡ move_number_effect m next d setup }
 {
-    let op = d.op;
-    crate::settle(
-        m,
-        next.write(d.rd, operate::place_number(op, m.operand(d.rd), d.number)),
-    )
+    next.write(d.rd, operate::place_number(d.op, m.operand(d.rd), d.number))
+        .settle()
 }
 
-pub fn operate_unary(m: Machine, next: Machine, d: UnaryFields, setup: Setup) -> Stepped
-    ensures { result ≡ unary_effect m next d setup }
+#[tactic(auto, unfolding(crate::specs::Compute::unary_effect))]
+pub fn operate_unary(m: Machine, next: Machine, d: UnaryFields) -> Result<Machine, Refusal>
+    ensures { (setup : Setup) → answered m result ≡ unary_effect m next d setup }
 {
-    let op = d.op;
-    crate::settle(m, next.write(d.rd, operate::unary(op, m.operand(d.rm))))
+    next.write(d.rd, operate::unary(d.op, m.operand(d.rm)))
+        .settle()
 }
 
-pub fn multiply(m: Machine, next: Machine, d: MultiplyFields, setup: Setup) -> Stepped
-    ensures { result ≡ multiply_effect m next d setup }
+#[tactic(auto, unfolding(crate::specs::Compute::multiply_effect))]
+pub fn multiply(m: Machine, next: Machine, d: MultiplyFields) -> Result<Machine, Refusal>
+    ensures { (setup : Setup) → answered m result ≡ multiply_effect m next d setup }
 {
-    let op = d.op;
-    let value = operate::multiply(op, m.operand(d.rn), m.operand(d.rm), m.operand(d.ra));
+    let value = operate::multiply(d.op, m.operand(d.rn), m.operand(d.rm), m.operand(d.ra));
     let after = next.write(d.rd, value);
-    let s = d.form.s;
-    if s {
-        let flags = after.flags;
-        return crate::settle(m, after.with_flags(flags.with_signs(value)));
+    if d.form.s {
+        return after.with_flags(after.flags.with_signs(value)).settle();
     }
-    crate::settle(m, after)
+    after.settle()
 }
 
-pub fn multiply_long(m: Machine, next: Machine, d: LongMultiplyFields, setup: Setup) -> Stepped
-    ensures { result ≡ long_multiply_effect m next d setup }
+#[tactic(auto, unfolding(crate::specs::Compute::long_multiply_effect))]
+pub fn multiply_long(m: Machine, next: Machine, d: LongMultiplyFields) -> Result<Machine, Refusal>
+    ensures { (setup : Setup) → answered m result ≡ long_multiply_effect m next d setup }
 {
-    let op = d.op;
     let before = Long {
         low: m.operand(d.low),
         high: m.operand(d.high),
     };
-    let result = operate::multiply_long(op, m.operand(d.rn), m.operand(d.rm), before);
-    crate::settle(m, next.write(d.low, result.low).write(d.high, result.high))
+    let result = operate::multiply_long(d.op, m.operand(d.rn), m.operand(d.rm), before);
+    next.write(d.low, result.low)
+        .write(d.high, result.high)
+        .settle()
 }
 
-pub fn divide(m: Machine, next: Machine, d: DivideFields, setup: Setup) -> Stepped
-    ensures { result ≡ divide_effect m next d setup }
+#[tactic(auto, unfolding(crate::specs::Compute::divide_effect))]
+pub fn divide(m: Machine, next: Machine, d: DivideFields) -> Result<Machine, Refusal>
+    ensures { (setup : Setup) → answered m result ≡ divide_effect m next d setup }
 {
-    let op = d.op;
-    crate::settle(
-        m,
-        next.write(d.rd, operate::divide(op, m.operand(d.rn), m.operand(d.rm))),
+    next.write(
+        d.rd,
+        operate::divide(d.op, m.operand(d.rn), m.operand(d.rm)),
     )
+    .settle()
 }
 
-pub fn saturate(m: Machine, next: Machine, d: SaturateFields, setup: Setup) -> Stepped
-    ensures { result ≡ saturate_effect m next d setup }
+#[tactic(auto, unfolding(crate::specs::Compute::saturate_effect))]
+pub fn saturate(m: Machine, next: Machine, d: SaturateFields) -> Result<Machine, Refusal>
+    ensures { (setup : Setup) → answered m result ≡ saturate_effect m next d setup }
 {
-    let op = d.op;
-    let shift = d.shift;
-    let x = operate::shifter_of(shift, m.operand(d.rm), d.amount as u32, m.flags.c);
-    let result = operate::saturate(op, d.bits as u32, x.value);
+    let x = operate::shifter_of(d.shift, m.operand(d.rm), d.amount as u32, m.flags.c);
+    let result = operate::saturate(d.op, d.bits as u32, x.value);
     let after = next.write(d.rd, result.value);
-    let flags = after.flags;
-    crate::settle(m, after.with_flags(flags.with_saturation(result.saturated)))
+    after
+        .with_flags(after.flags.with_saturation(result.saturated))
+        .settle()
 }
 
-pub fn set_field(m: Machine, next: Machine, d: BitFieldFields, setup: Setup) -> Stepped
-    ensures { result ≡ bit_field_effect m next d setup }
+#[tactic(auto, unfolding(crate::specs::Compute::bit_field_effect))]
+pub fn set_field(m: Machine, next: Machine, d: BitFieldFields) -> Result<Machine, Refusal>
+    ensures { (setup : Setup) → answered m result ≡ bit_field_effect m next d setup }
 {
-    let op = d.op;
     let value = operate::set_field(
-        op,
+        d.op,
         m.operand(d.rd),
         m.operand(d.rn),
         d.lsb as u32,
         d.width as u32,
     );
-    crate::settle(m, next.write(d.rd, value))
+    next.write(d.rd, value).settle()
 }
 
-pub fn extend(m: Machine, next: Machine, d: ExtendFields, setup: Setup) -> Stepped
-    ensures { result ≡ extend_effect m next d setup }
+#[tactic(auto, unfolding(crate::specs::Compute::extend_effect))]
+pub fn extend(m: Machine, next: Machine, d: ExtendFields) -> Result<Machine, Refusal>
+    ensures { (setup : Setup) → answered m result ≡ extend_effect m next d setup }
 {
-    let op = d.op;
-    let value = operate::extend(op, m.operand(d.rm), d.rotation as u32);
-    crate::settle(m, next.write(d.rd, value))
+    let value = operate::extend(d.op, m.operand(d.rm), d.rotation as u32);
+    next.write(d.rd, value).settle()
 }

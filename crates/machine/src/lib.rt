@@ -6,15 +6,14 @@ pub mod access;
 pub mod branch;
 pub mod compute;
 
-ghost use Rattle.std.specs.Prelude.{◌≡◌};
-ghost use Rattle.reading.specs.declared.Read.TheVariants.{Is};
-ghost use Rattle.machine.specs.Machine.{fresh, held, operand_value, base_value, kept, written, with_flags, with_waiting, good, ruling, condition_passes, advanced, skipped, onward, refused, done, steady, settled, keeping};
+ghost use Rattle.std.specs.Prelude.{◌≡◌, Some};
+ghost use Rattle.machine.specs.Machine.{fresh, held, operand_value, base_value, kept, written, with_flags, with_waiting, good, ruling, condition_passes, advanced, skipped, onward, steady, settled, answered, keeping};
 ghost use Rattle.flags.specs.Flags.{passes};
 ghost use Rattle.machine.specs.Step.{effect, obeyed, considered, stepped};
 
 use flags::Flags;
-use reading::Read;
 use record::Record;
+use refusal::Refusal;
 use setup::Setup;
 use waiting::Waiting;
 
@@ -25,13 +24,6 @@ pub struct Machine {
     pub waiting: Waiting,
 }
 
-// A step's number, and the machine after it.
-#[derive(Clone, Copy)]
-pub struct Stepped {
-    pub number: u32,
-    pub machine: Machine,
-}
-
 impl Machine {
     pub const SP: u8 = record::register::SP;
 
@@ -39,6 +31,7 @@ impl Machine {
 
     pub const PC: u8 = record::register::PC;
 
+    #[tactic(auto, unfolding(crate::specs::Machine::fresh))]
     pub fn new() -> Self
         ensures { result ≡ fresh }
     {
@@ -50,6 +43,7 @@ impl Machine {
     }
 
     // What a register holds.
+    #[tactic(auto, unfolding(crate::specs::Machine::held))]
     pub fn register(self, number: u8) -> u32
         ensures { result ≡ held self number }
     {
@@ -58,6 +52,7 @@ impl Machine {
     }
 
     // Every register is written here.
+    #[tactic(auto, unfolding(crate::specs::Machine::written))]
     pub fn write(mut self, number: u8, value: u32) -> Self
         ensures { result ≡ written self number value }
     {
@@ -69,16 +64,18 @@ impl Machine {
         self
     }
 
+    #[tactic(auto, unfolding(crate::specs::Machine::operand_value))]
     pub fn operand(self, number: u8) -> u32
         ensures { result ≡ operand_value self number }
     {
         if number == Machine::PC {
-            return std::num::wrapping_add_u32(self.register(Machine::PC), 4);
+            return self.register(Machine::PC).wrapping_add(4);
         }
         self.register(number)
     }
 
     // The base of a load or of kind 04.
+    #[tactic(auto, unfolding(crate::specs::Machine::base_value))]
     pub fn base(self, number: u8) -> u32
         ensures { result ≡ base_value self number }
     {
@@ -88,6 +85,7 @@ impl Machine {
         self.register(number)
     }
 
+    #[tactic(auto, unfolding(crate::specs::Machine::with_flags))]
     pub fn with_flags(mut self, flags: Flags) -> Self
         ensures { result ≡ with_flags self flags }
     {
@@ -95,6 +93,7 @@ impl Machine {
         self
     }
 
+    #[tactic(auto, unfolding(crate::specs::Machine::with_waiting))]
     pub fn with_waiting(mut self, waiting: Waiting) -> Self
         ensures { result ≡ with_waiting self waiting }
     {
@@ -102,16 +101,17 @@ impl Machine {
         self
     }
 
+    #[tactic(auto, unfolding(crate::specs::Machine::good))]
     pub fn is_good(self) -> bool
         ensures { result ≡ good self }
     {
-        let waiting = self.waiting;
         (self.register(Machine::PC) % 2 == 0)
             & (self.register(Machine::SP) % 4 == 0)
-            & waiting.is_good()
+            & self.waiting.is_good()
     }
 
     // Does the condition that rules a record pass?
+    #[tactic(auto, unfolding(crate::specs::Machine::condition_passes))]
     pub fn passes(self, r: Record) -> bool
         ensures { result ≡ condition_passes self r }
     {
@@ -122,62 +122,75 @@ impl Machine {
     fn passes_by(self, own: u8) -> bool
         ensures { result ≡ passes self.flags (ruling self.waiting own) }
     {
-        let flags = self.flags;
-        flags.pass(ruling_of(self.waiting, own))
+        self.flags.pass(ruling_of(self.waiting, own))
     }
 
     // The machine so many machine bytes on, at the next record.
+    #[tactic(auto, unfolding(crate::specs::Machine::advanced))]
     fn advance(self, length: u32) -> Self
         ensures { result ≡ advanced self length }
     {
-        let next = std::num::wrapping_add_u32(self.register(Machine::PC), length);
+        let next = self.register(Machine::PC).wrapping_add(length);
         self.write(Machine::PC, next)
     }
 
-    // One step: the number, and the machine after it, or as it was.
-    pub fn step(self, r: &[u8], memory: &mut [u8], setup: Setup) -> Stepped
-        ensures { keeping result memory.new ≡ stepped self r.now memory.old setup }
+    // Is R13 a multiple of 4?
+    #[tactic(auto, unfolding(crate::specs::Machine::steady))]
+    pub fn is_steady(self) -> bool
+        ensures { result ≡ steady self }
     {
-        let fine = self.is_good() & setup::is_fit(memory, setup);
-        if fine {
-            let Read::Is(found) = reading::read_all(r) else {
-                return refuse(2, self);
-            };
-            return self.consider(found, memory, setup);
-        }
-        refuse(1, self)
+        self.register(Machine::SP) % 4 == 0
     }
 
-    fn consider(self, r: Record, memory: &mut [u8], setup: Setup) -> Stepped
-        ensures { keeping result memory.new ≡ considered self (Is r) memory.old setup }
+    // The machine as a step leaves it, unless R13 would be no multiple of 4.
+    #[tactic(auto, unfolding(crate::specs::Machine::settled))]
+    pub fn settle(self) -> Result<Machine, Refusal>
+        ensures { (m : Machine) → answered m result ≡ settled m self }
     {
-        let waiting = self.waiting;
-        let number = judge::refusal_of(r, waiting.count());
-        let fine = number == 0;
-        if fine {
-            return self.obey(r, memory, setup);
+        if self.is_steady() {
+            Ok(self)
+        } else {
+            Err(Refusal::Unsteady)
         }
-        refuse(number, self)
+    }
+
+    // One step: the machine after it, or why there is none.
+    #[tactic(auto, unfolding(crate::specs::Step::stepped, crate::specs::Step::considered))]
+    pub fn step(self, r: &[u8], memory: &mut [u8], setup: Setup) -> Result<Machine, Refusal>
+        ensures { keeping (answered self result) memory.new ≡ stepped self r.now memory.old setup }
+    {
+        if !(self.is_good() & setup::is_fit(memory, setup)) {
+            return Err(Refusal::Unfit);
+        }
+        let found = reading::read_all(r).ok_or(Refusal::Unreadable)?;
+        self.consider(found, memory, setup)
+    }
+
+    #[tactic(auto, unfolding(crate::specs::Step::considered))]
+    fn consider(self, r: Record, memory: &mut [u8], setup: Setup) -> Result<Machine, Refusal>
+        ensures { keeping (answered self result) memory.new ≡ considered self (Some r) memory.old setup }
+    {
+        judge::refusal_of(r, self.waiting.count())?;
+        self.obey(r, memory, setup)
     }
 
     // The step of a record that 1 to 4 don't apply to.
-    pub fn obey(self, r: Record, memory: &mut [u8], setup: Setup) -> Stepped
-        ensures { keeping result memory.new ≡ obeyed self r memory.old setup }
+    #[tactic(auto, unfolding(crate::specs::Step::obeyed, crate::specs::Machine::condition_passes, crate::specs::Machine::onward, crate::specs::Machine::skipped, flow::specs::Flow::machine_length, flow::specs::Flow::after, flow::specs::Flow::own_condition, flow::specs::Flow::traits))]
+    pub fn obey(self, r: Record, memory: &mut [u8], setup: Setup) -> Result<Machine, Refusal>
+        ensures { keeping (answered self result) memory.new ≡ obeyed self r memory.old setup }
     {
         let t = flow::traits_of(r);
-        let opens = t.opens;
         let ahead = self.advance(t.length);
-        let passed = self.passes_by(t.own);
-        let waiting = self.waiting;
-        if passed {
-            let next = ahead.with_waiting(flow::opened_of(opens, waiting));
+        if self.passes_by(t.own) {
+            let next = ahead.with_waiting(flow::opened_of(t.opens, self.waiting));
             return take_effect(self, next, r, memory, setup);
         }
-        finish(ahead.with_waiting(waiting.drop_first()))
+        Ok(ahead.with_waiting(self.waiting.drop_first()))
     }
 }
 
 // What a register keeps of a value: R15 has bit 0 cleared.
+#[tactic(auto, unfolding(crate::specs::Machine::kept))]
 fn kept_of(number: u8, value: u32) -> u32
     ensures { result ≡ kept number value }
 {
@@ -187,74 +200,49 @@ fn kept_of(number: u8, value: u32) -> u32
     value
 }
 
+#[tactic(auto, unfolding(crate::specs::Machine::ruling))]
 fn ruling_of(waiting: Waiting, own: u8) -> u8
     ensures { result ≡ ruling waiting own }
 {
-    let free = waiting.first == Waiting::NONE;
-    if free {
+    if waiting.first == Waiting::NONE {
         return own;
     }
     waiting.first
 }
 
-pub fn refuse(number: u32, m: Machine) -> Stepped
-    ensures { result ≡ refused number m }
-{
-    Stepped { number, machine: m }
-}
-
-pub fn finish(m: Machine) -> Stepped
-    ensures { result ≡ done m }
-{
-    Stepped {
-        number: 0,
-        machine: m,
-    }
-}
-
-pub fn is_steady(next: Machine) -> bool
-    ensures { result ≡ steady next }
-{
-    next.register(Machine::SP) % 4 == 0
-}
-
-// The machine after the step, unless R13 would be no multiple of 4.
-pub fn settle(m: Machine, next: Machine) -> Stepped
-    ensures { result ≡ settled m next }
-{
-    let steady = is_steady(next);
-    if steady {
-        return finish(next);
-    }
-    refuse(7, m)
-}
-
-fn take_effect(m: Machine, next: Machine, r: Record, memory: &mut [u8], setup: Setup) -> Stepped
-    ensures { keeping result memory.new ≡ effect m next r memory.old setup }
+#[tactic(auto, unfolding(crate::specs::Step::effect))]
+fn take_effect(
+    m: Machine,
+    next: Machine,
+    r: Record,
+    memory: &mut [u8],
+    setup: Setup,
+) -> Result<Machine, Refusal>
+    ensures { keeping (answered m result) memory.new ≡ effect m next r memory.old setup }
 {
     match r {
-        Record::ShiftedRegister(d) => compute::shift_register(m, next, d, setup),
-        Record::Constant(d) => compute::operate_constant(m, next, d, setup),
-        Record::RegisterShift(d) => compute::shift_by_register(m, next, d, setup),
-        Record::AddNumber(d) => compute::add_a_number(m, next, d, setup),
-        Record::MoveNumber(d) => compute::move_a_number(m, next, d, setup),
-        Record::Unary(d) => compute::operate_unary(m, next, d, setup),
-        Record::Multiply(d) => compute::multiply(m, next, d, setup),
-        Record::LongMultiply(d) => compute::multiply_long(m, next, d, setup),
-        Record::Divide(d) => compute::divide(m, next, d, setup),
-        Record::Saturate(d) => compute::saturate(m, next, d, setup),
-        Record::BitField(d) => compute::set_field(m, next, d, setup),
-        Record::Extend(d) => compute::extend(m, next, d, setup),
+        Record::ShiftedRegister(d) => compute::shift_register(m, next, d),
+        Record::Constant(d) => compute::operate_constant(m, next, d),
+        Record::RegisterShift(d) => compute::shift_by_register(m, next, d),
+        Record::AddNumber(d) => compute::add_a_number(m, next, d),
+        Record::MoveNumber(d) => compute::move_a_number(m, next, d),
+        Record::Unary(d) => compute::operate_unary(m, next, d),
+        Record::Multiply(d) => compute::multiply(m, next, d),
+        Record::LongMultiply(d) => compute::multiply_long(m, next, d),
+        Record::Divide(d) => compute::divide(m, next, d),
+        Record::Saturate(d) => compute::saturate(m, next, d),
+        Record::BitField(d) => compute::set_field(m, next, d),
+        Record::Extend(d) => compute::extend(m, next, d),
         Record::Access(d) => access::access_one(m, next, d, memory, setup),
         Record::IndexedAccess(d) => access::access_indexed(m, next, d, memory, setup),
         Record::DualAccess(d) => access::access_two(m, next, d, memory, setup),
         Record::MultipleAccess(d) => access::access_many(m, next, d, memory, setup),
-        Record::Branch(d) => branch::branch_off(m, next, d, setup),
-        Record::RegisterBranch(d) => branch::branch_to_register(m, next, d, setup),
-        Record::CompareBranch(d) => branch::compare_and_branch(m, next, d, setup),
-        Record::IfThen(_) => finish(next),
-        Record::Nop(_) => finish(next),
+        Record::Branch(d) => branch::branch_off(m, next, d),
+        Record::RegisterBranch(d) => branch::branch_to_register(m, next, d),
+        Record::CompareBranch(d) => branch::compare_and_branch(m, next, d),
+        Record::IfThen(_) => Ok(next),
+        Record::Nop(_) => Ok(next),
         Record::TableBranch(d) => branch::branch_by_table(m, next, d, memory, setup),
-        Record::Filler(_) => finish(next),
+        Record::Filler(_) => Ok(next),
     }
 }

@@ -14,18 +14,16 @@ fn offset_of(size: usize, setup: Setup, address: u32) -> usize
     ensures { (result < size + 2 ^ 32) × (result < size → (address ≡ setup.base + result) × (setup.base + size ≤ 2 ^ 32)) }
 {
     if size <= 0x1_0000_0000 - setup.base as usize {
-        return std::num::wrapping_sub_u32(address, setup.base) as usize;
+        return address.wrapping_sub(setup.base) as usize;
     }
     size
 }
 
+#[tactic(auto, using(crate::proofs::Laws::held_by_offset))]
 fn is_held(size: usize, setup: Setup, address: u32) -> bool
     ensures { result ≡ holds setup size address }
 {
-    if address < setup.base {
-        return false;
-    }
-    ((address - setup.base) as usize) < size
+    setup.base <= address && ((address - setup.base) as usize) < size
 }
 
 // Are so many bytes from an address on in memory?
@@ -40,21 +38,19 @@ pub fn is_inside(memory: &[u8], setup: Setup, address: u32, count: u32) -> bool
     is_each_inside(size, setup, address, count)
 }
 
+#[tactic(auto, using(crate::proofs::Laws::inside_more, crate::proofs::Laws::outside), unfolding(crate::specs::Memory::inside))]
 fn is_each_inside(size: usize, setup: Setup, address: u32, count: u32) -> bool
     ensures { result ≡ inside count setup size address }
 {
-    let mut i = 0;
-    while i < count {
-        let here = is_held(size, setup, std::num::wrapping_add_u32(address, i));
-        if here {
-            i += 1;
-        } else {
+    for i in 0..count {
+        if !is_held(size, setup, address.wrapping_add(i)) {
             return false;
         }
     }
     true
 }
 
+#[tactic(auto, using(crate::proofs::Laws::byte_below, crate::proofs::Laws::byte_from_base))]
 fn byte_of(memory: &[u8], setup: Setup, address: u32) -> u8
     ensures { result ≡ byte_at setup memory.now address }
 {
@@ -64,6 +60,9 @@ fn byte_of(memory: &[u8], setup: Setup, address: u32) -> u8
     little::byte_at(memory, (address - setup.base) as usize)
 }
 
+// These three, and the stores, answer a u8, a u16 and a u32 on one fast path each. One function of a width would ask that it is below 5, which
+// a public function does not, and its callers would narrow what it gives.
+#[tactic(auto, unfolding(crate::specs::Memory::loaded, little::specs::Little::little))]
 pub fn load_byte(memory: &[u8], setup: Setup, address: u32) -> u8
     ensures { result ≡ loaded 1 setup memory.now address }
 {
@@ -74,6 +73,7 @@ pub fn load_byte(memory: &[u8], setup: Setup, address: u32) -> u8
     byte_of(memory, setup, address)
 }
 
+#[tactic(auto, using(crate::proofs::Laws::quick_loaded))]
 pub fn load_half(memory: &[u8], setup: Setup, address: u32) -> u16
     ensures { result ≡ loaded 2 setup memory.now address }
 {
@@ -102,19 +102,21 @@ fn half_in(memory: &[u8], at: usize) -> u16
 }
 
 // Byte by byte, where some may not be in memory. It calls itself, so that it isn't copied into the code of those who call it.
+#[tactic(auto, using(crate::proofs::Laws::loaded_next), unfolding(crate::specs::Memory::loaded, little::specs::Little::little))]
 fn load_each(memory: &[u8], setup: Setup, address: u32, count: u32) -> u32
     requires { count ≤ 4 }
     ensures { (result ≡ loaded count setup memory.now address) × (result < 2 ^ (8 * count)) }
 {
     if 0 < count {
         let low = byte_of(memory, setup, address);
-        let next = std::num::wrapping_add_u32(address, 1);
+        let next = address.wrapping_add(1);
         return load_each(memory, setup, next, count - 1) << 8 | low as u32;
     }
     0
 }
 
 // The lowest byte of a number.
+#[tactic(auto, unfolding(crate::specs::Memory::stored))]
 pub fn store_byte(memory: &mut [u8], setup: Setup, address: u32, number: u32)
     ensures { memory.new ≡ stored 1 setup memory.old address number }
 {
@@ -162,6 +164,7 @@ fn put_half_in(memory: &mut [u8], at: usize, number: u32)
     memory[at + 1] = ((number >> 8) % 0x100) as u8;
 }
 
+#[tactic(auto, using(crate::proofs::Laws::stored_next), unfolding(crate::specs::Memory::stored))]
 fn store_each(memory: &mut [u8], setup: Setup, address: u32, count: u32, number: u32)
     requires { count ≤ 4 }
     ensures { memory.new ≡ stored count setup memory.old address number }
@@ -169,11 +172,12 @@ fn store_each(memory: &mut [u8], setup: Setup, address: u32, count: u32, number:
     if 0 < count {
         let i = count - 1;
         store_each(memory, setup, address, i, number);
-        let here = std::num::wrapping_add_u32(address, i);
+        let here = address.wrapping_add(i);
         put(memory, setup, here, ((number >> (8 * i)) % 0x100) as u8);
     }
 }
 
+#[tactic(auto, using(crate::proofs::Laws::put_below, crate::proofs::Laws::put_here, crate::proofs::Laws::put_past))]
 fn put(memory: &mut [u8], setup: Setup, address: u32, x: u8)
     ensures { memory.new ≡ put_byte setup memory.old address x }
 {

@@ -14,13 +14,14 @@ use saturate::Saturated;
 use shift::Shifted;
 use sum::Sum;
 
-// What SSAT or USAT puts in its register, and whether it saturated.
+// What SSAT or USAT puts in its register, and whether it saturated: the value counts either way, so this is no Result.
 #[derive(Clone, Copy)]
 pub struct Saturation {
     pub value: u32,
     pub saturated: bool,
 }
 
+#[tactic(auto, unfolding(crate::specs::Operate::shifter))]
 pub fn shifter_of(by: Shift, x: u32, amount: u32, carry: bool) -> Shifted
     ensures { result ≡ shifter by x amount carry }
 {
@@ -33,6 +34,7 @@ pub fn shifter_of(by: Shift, x: u32, amount: u32, carry: bool) -> Shifted
     }
 }
 
+#[tactic(auto, unfolding(crate::specs::Operate::constant_operand))]
 pub fn constant_operand_of(x: u32, carry: bool) -> Shifted
     ensures { result ≡ constant_operand x carry }
 {
@@ -52,6 +54,7 @@ fn logical_of(value: u32, y: Shifted, overflow: bool) -> Sum
     }
 }
 
+#[tactic(auto, unfolding(crate::specs::Operate::operated))]
 pub fn operate(op: DataOp, x: u32, y: Shifted, carry: bool, overflow: bool) -> Sum
     ensures { result ≡ operated op x y carry overflow }
 {
@@ -75,6 +78,7 @@ pub fn operate(op: DataOp, x: u32, y: Shifted, carry: bool, overflow: bool) -> S
     }
 }
 
+#[tactic(auto, unfolding(crate::specs::Operate::added))]
 pub fn add(op: AddOp, x: u32, number: u32) -> u32
     ensures { result ≡ added op x number }
 {
@@ -90,6 +94,7 @@ pub fn add(op: AddOp, x: u32, number: u32) -> u32
     }
 }
 
+#[tactic(auto, unfolding(crate::specs::Operate::placed_number))]
 pub fn place_number(op: MoveOp, d: u32, number: u16) -> u32
     ensures { result ≡ placed_number op d number }
 {
@@ -99,6 +104,7 @@ pub fn place_number(op: MoveOp, d: u32, number: u16) -> u32
     }
 }
 
+#[tactic(auto, unfolding(crate::specs::Operate::unary_result))]
 pub fn unary(op: UnaryOp, x: u32) -> u32
     ensures { result ≡ unary_result op x }
 {
@@ -111,6 +117,7 @@ pub fn unary(op: UnaryOp, x: u32) -> u32
     }
 }
 
+#[tactic(auto, unfolding(crate::specs::Operate::multiplied))]
 pub fn multiply(op: MultiplyOp, x: u32, y: u32, a: u32) -> u32
     ensures { result ≡ multiplied op x y a }
 {
@@ -121,6 +128,7 @@ pub fn multiply(op: MultiplyOp, x: u32, y: u32, a: u32) -> u32
     }
 }
 
+#[tactic(auto, unfolding(crate::specs::Operate::multiplied_long))]
 pub fn multiply_long(op: LongOp, x: u32, y: u32, before: Long) -> Long
     ensures { result ≡ multiplied_long op x y before }
 {
@@ -132,6 +140,7 @@ pub fn multiply_long(op: LongOp, x: u32, y: u32, before: Long) -> Long
     }
 }
 
+#[tactic(auto, unfolding(crate::specs::Operate::divided))]
 pub fn divide(op: DivideOp, x: u32, y: u32) -> u32
     ensures { result ≡ divided op x y }
 {
@@ -141,6 +150,7 @@ pub fn divide(op: DivideOp, x: u32, y: u32) -> u32
     }
 }
 
+#[tactic(auto, unfolding(crate::specs::Operate::saturation))]
 fn saturation_of(s: Saturated) -> Saturation
     ensures { result ≡ saturation s }
 {
@@ -150,6 +160,7 @@ fn saturation_of(s: Saturated) -> Saturation
     }
 }
 
+#[tactic(auto, unfolding(crate::specs::Operate::saturated))]
 pub fn saturate(op: SaturateOp, bits: u32, x: u32) -> Saturation
     ensures { result ≡ saturated op bits x }
 {
@@ -160,6 +171,7 @@ pub fn saturate(op: SaturateOp, bits: u32, x: u32) -> Saturation
     }
 }
 
+#[tactic(auto, unfolding(crate::specs::Operate::fielded))]
 pub fn set_field(op: FieldOp, d: u32, x: u32, lsb: u32, width: u32) -> u32
     ensures { result ≡ fielded op d x lsb width }
 {
@@ -171,6 +183,7 @@ pub fn set_field(op: FieldOp, d: u32, x: u32, lsb: u32, width: u32) -> u32
     }
 }
 
+#[tactic(auto, unfolding(crate::specs::Operate::extended))]
 pub fn extend(op: ExtendOp, x: u32, rotation: u32) -> u32
     ensures { result ≡ extended op x rotation }
 {

@@ -1,12 +1,10 @@
 -- How many bytes a record has, by its kind.
-use Rattle.std.proofs.Common.{◌≡◌, ℕ, ◌+◌, ◌≤◌, Bool, true, false, ◌&&◌, eqb, List, length, refl, arith, eqb-true}
+use Rattle.std.proofs.Common.{◌≡◌, ℕ, ◌+◌, ◌≤◌, Bool, true, false, ◌&&◌, eqb, List, length, Option, Some, None, refl, arith, eqb-true}
 use Rattle.std.specs.Bool.{if◌then◌else◌}
 use Rattle.little.specs.Little.{byte}
 use Rattle.record.specs.declared.Record.{Record}
 use Rattle.kinds.specs.Kinds.{lengths, listing_length, record_of}
 use Rattle.fields.specs.Fields.{well_formed}
-use Rattle.reading.specs.declared.Read.{Read}
-use Rattle.reading.specs.declared.Read.TheVariants.{Is, Refused}
 use Rattle.reading.specs.Reading.{named, read_one}
 use Rattle.reading.proofs.Places.{read_whole}
 use Rattle.lent.specs.Lent.{Formed}
@@ -58,7 +56,7 @@ pub record ReadSo (b : List ℕ) (x : Record) : Type 0 where
   pub least : 1 ≤ byte b 0
   pub most : byte b 0 ≤ 23
 
-pub read_so : (b : List ℕ) (x : Record) → read_one b ≡ Is x → ReadSo b x
+pub read_so : (b : List ℕ) (x : Record) → read_one b ≡ Some x → ReadSo b x
 unfolding read_one
 read_so b x e = go (eqb (length b) (listing_length (byte b 0))) (named b) (well_formed (record_of b)) refl refl e
   where
@@ -66,7 +64,7 @@ read_so b x e = go (eqb (length b) (listing_length (byte b 0))) (named b) (well_
     long = (read_whole b x e).long
 
     go : (t n f : Bool) → eqb (length b) (listing_length (byte b 0)) ≡ t → well_formed (record_of b) ≡ f
-        → ◌≡◌ {A = Read} (if t && n then (if f then Is (record_of b) else Refused) else Refused) (Is x) → ReadSo b x
+        → ◌≡◌ {A = Option Record} (if t && n then (if f then Some (record_of b) else None) else None) (Some x) → ReadSo b x
     go true true true h w g =
         let l = eqb-true (length b) (listing_length (byte b 0)) h in
         let k = known (byte b 0) (omega (arith, l, long)) in

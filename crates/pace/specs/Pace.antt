@@ -1,7 +1,8 @@
 -- For the code of a run: the step of a record that the check has passed, on the machine's parts. Order 13: none of the tests that the check
 -- has made is made again.
-use Rattle.std.specs.Prelude.{◌≡◌, ℕ, ◌+◌, ◌%◌, ◌^◌, ◌≤◌, Bool, false, List, slice_index}
+use Rattle.std.specs.Prelude.{◌≡◌, ℕ, ◌+◌, ◌%◌, ◌^◌, ◌≤◌, false, List, slice_index}
 use Rattle.little.specs.Little.{byte}
+use Rattle.flags.specs.declared.Flags.{Flags}
 use Rattle.waiting.specs.declared.Waiting.{Waiting}
 use Rattle.waiting.specs.Waiting.{none, nothing, waiting_count}
 use Rattle.flow.specs.Flow.{machine_length, misplaced, after}
@@ -9,7 +10,7 @@ use Rattle.kinds.specs.Kinds.{record_of}
 use Rattle.setup.specs.declared.Setup.{Setup}
 use Rattle.machine.specs.Machine.{PC, keeping}
 use Rattle.machine.specs.Step.{obeyed}
-use Rattle.lent.specs.Lent.{flags_in, assembled, came, Formed}
+use Rattle.lent.specs.Lent.{assembled, came, Formed}
 
 -- bytes that begin with a record that is stepped: a filler is not
 pub record SteppedKind (r : List ℕ) : Type 0 where
@@ -28,7 +29,7 @@ abbrev pub ahead_in : List ℕ → List ℕ → ℕ
 ahead_in registers r = (slice_index registers PC + machine_length (record_of r)) % 2 ^ 32
 
 -- what a step leaves of the parts is what `obeyed` says of the machine that they make
-abbrev pub Steps : ℕ → List ℕ → List Bool → List ℕ → List ℕ → List Bool → Waiting → List ℕ → List ℕ → Setup → Type 0
-Steps number after_it marks memory before were waiting r bytes setup =
-    keeping (came number after_it (flags_in marks) waiting (after (record_of r) waiting)) memory
-    ≡ obeyed (assembled before (flags_in were) waiting) (record_of r) bytes setup
+abbrev pub Steps : ℕ → List ℕ → Flags → List ℕ → List ℕ → Flags → Waiting → List ℕ → List ℕ → Setup → Type 0
+Steps number after_it flags memory before were waiting r bytes setup =
+    keeping (came number after_it flags waiting (after (record_of r) waiting)) memory
+    ≡ obeyed (assembled before were waiting) (record_of r) bytes setup

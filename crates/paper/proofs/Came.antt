@@ -9,6 +9,7 @@ use native.Mathlib.Omega.{arith}
 use borrow.Author.Tests.{eqb-true, eqb-false, eq-eqb, leb-false}
 use lib.Dec.{eqb, leb}
 use lib.ListN.{length, length-set}
+use Rattle.std.specs.Prelude.{Some}
 use Rattle.word.proofs.Cases.{cases, yes_or_no, neither}
 use Rattle.address.specs.Address.{cleared}
 use Rattle.address.proofs.Laws.{cleared_even}
@@ -24,7 +25,6 @@ use Rattle.record.specs.declared.Record.TheVariants.{IfThen}
 use Rattle.restricted.specs.Restricted.{allowed}
 use Rattle.flow.specs.Flow.{traits, machine_length, way, leaves, misplaced, after, own_condition}
 use Rattle.flow.proofs.Laws.{after_holds}
-use Rattle.reading.specs.declared.Read.TheVariants.{Is}
 use Rattle.reading.specs.Reading.{read_one}
 use Rattle.judge.specs.Judge.{refusal}
 use Rattle.judge.proofs.Laws.{not_refused}
@@ -157,7 +157,7 @@ module _ (m : Machine) (r : Record) (bytes : List ℕ) (setup : Setup) (firm : s
 
 -- the same of a step on the record's bytes
 pub step_result : (m : Machine) (bytes memory : List ℕ) (setup : Setup) (r : Record) → good m ≡ true → fits setup memory ≡ true
-    → length m.registers ≡ 16 → read_one bytes ≡ Is r → refusal r (waiting_count m.waiting) ≡ 0
+    → length m.registers ≡ 16 → read_one bytes ≡ Some r → refusal r (waiting_count m.waiting) ≡ 0
     → Result m r memory (stepped m bytes memory setup)
 unfolding stepped considered
 step_result m bytes memory setup r g f sixteen e n = rw (g, f, e, n) (result m r memory setup (good_steady m g) sixteen n)

@@ -6,14 +6,13 @@ use mathlib.Core.Path.{◌≡◌, refl}
 use native.Mathlib.Omega.{arith}
 use borrow.Author.Tests.{eqb-false}
 use lib.Dec.{eqb}
+use Rattle.std.specs.Prelude.{Option, Some, None}
 use Rattle.word.proofs.Cases.{both_true, chosen}
 use Rattle.word.proofs.Sole.{one_outcome}
 use Rattle.waiting.specs.Waiting.{waiting_count}
 use Rattle.setup.specs.declared.Setup.{Setup}
 use Rattle.setup.specs.Setup.{fits}
 use Rattle.record.specs.declared.Record.{Record}
-use Rattle.reading.specs.declared.Read.{Read}
-use Rattle.reading.specs.declared.Read.TheVariants.{Is, Refused}
 use Rattle.reading.specs.Reading.{read_one}
 use Rattle.judge.specs.Judge.{refusal}
 use Rattle.judge.proofs.Laws.{refusal_low}
@@ -41,10 +40,10 @@ module _
         (record { write = λ x k v w q. tt; flag = λ x f q. tt })
         firm r (each m (λ k v. Unit {0}) (λ k v. tt) r) (λ e. tt) (λ e. went (skipped m r) bytes)
 
-    of_considered : (read : Read) → steady m ≡ true → P (considered m read bytes setup)
+    of_considered : (read : Option Record) → steady m ≡ true → P (considered m read bytes setup)
     unfolding considered
-    of_considered Refused firm = stop 2 (omega arith) (omega arith)
-    of_considered (Is r) firm =
+    of_considered None firm = stop 2 (omega arith) (omega arith)
+    of_considered (Some r) firm =
         let n = refusal r (waiting_count m.waiting) in
         chosen P (eqb n 0) _ _
         (λ e. of_obeyed r firm)

@@ -31,7 +31,7 @@ use Rattle.transfer.specs.declared.Alignment.TheVariants.{Byte, Word}
 use Rattle.transfer.specs.Transfer.{width, multiple, alignment, access_refusal, entry_width, entry_address, table_target}
 use Rattle.transfer.proofs.Lengths.{after_store_length, list_stored_length}
 use Rattle.machine.specs.declared.Machine.{Machine}
-use Rattle.machine.specs.declared.Stepped.{Stepped}
+use Rattle.machine.specs.Machine.{Stepped}
 use Rattle.machine.specs.Machine.{PC, held, operand_value, written, condition_passes, onward, skipped, refused, done, steady, settled, Outcome, keeping, landed}
 use Rattle.machine.specs.Access.{storing, arriving, access_made, access_done, access_effect, indexed_access_effect, dual_made, dual_access_effect, list_arriving, multiple_made, multiple_access_effect}
 use Rattle.machine.specs.Branch.{direct_target, branch_effect, register_branch_effect, branches, compare_branch_effect, table_branch_effect}

@@ -8,6 +8,7 @@ use native.Mathlib.Omega.{arith}
 use borrow.Author.Tests.{eq-eqb}
 use lib.Dec.{eqb}
 use lib.ListN.{length, length-set}
+use Rattle.std.specs.Prelude.{Some}
 use Rattle.word.specs.Word.{bit}
 use Rattle.word.proofs.Cases.{chosen}
 use Rattle.waiting.specs.Waiting.{none, waiting_count}
@@ -22,13 +23,12 @@ use Rattle.record.specs.declared.Record.{Record}
 use Rattle.record.specs.declared.Record.TheVariants.{Branch, RegisterBranch, TableBranch}
 use Rattle.flow.specs.Flow.{traits, way, fills, own_condition}
 use Rattle.flow.proofs.Laws.{Parting, ByOffset, ByRegister, ByTable, ByFiller}
-use Rattle.reading.specs.declared.Read.TheVariants.{Is}
 use Rattle.reading.specs.Reading.{read_one}
 use Rattle.judge.specs.Judge.{refusal}
 use Rattle.transfer.specs.Transfer.{access_refusal, entry_width, entry_address}
 use Rattle.transfer.specs.declared.Alignment.TheVariants.{Byte}
 use Rattle.machine.specs.declared.Machine.{Machine}
-use Rattle.machine.specs.declared.Stepped.{Stepped}
+use Rattle.machine.specs.Machine.{Stepped}
 use Rattle.machine.specs.Machine.{PC, held, operand_value, kept, written, with_flags, with_waiting, good, ruling, condition_passes, advanced, onward, refused, done, steady, settled, landed}
 use Rattle.machine.specs.Branch.{direct_target, branch_effect, register_branch_effect, table_branch_effect}
 use Rattle.machine.specs.Step.{effect, obeyed, considered, stepped}
@@ -110,7 +110,7 @@ module _ (m : Machine) (sixteen : Sixteen m) (bytes : List ℕ) (setup : Setup) 
 
 -- the same of a step on the record's bytes
 pub step_parts : (m : Machine) (bytes memory : List ℕ) (setup : Setup) (r : Record) → good m ≡ true → fits setup memory ≡ true
-    → length m.registers ≡ 16 → read_one bytes ≡ Is r → refusal r (waiting_count m.waiting) ≡ 0
+    → length m.registers ≡ 16 → read_one bytes ≡ Some r → refusal r (waiting_count m.waiting) ≡ 0
     → Parting r → fills (way r) ≡ false → waiting_count m.waiting ≡ 0
     → (stepped m bytes memory setup).answer.number ≡ 0 → Arrived m r (held (stepped m bytes memory setup).answer.machine PC)
 unfolding stepped considered

@@ -6,42 +6,47 @@ ghost use Rattle.std.specs.Prelude.{◌≡◌, ◌*◌, ◌*ℤ◌};
 ghost use Rattle.word.specs.Word.{signed, wrapped};
 ghost use Rattle.product.specs.Product.{MUL, MLA, MLS, halves, whole, UMULL, UMLAL, SMULL, SMLAL};
 
-#[derive(Clone, Copy)]
+#[derive(Clone, Copy, Debug, PartialEq, Eq)]
 pub struct Long {
     pub low: u32,
     pub high: u32,
 }
 
+#[tactic(auto, unfolding(crate::specs::Product::MUL))]
 pub fn mul(x: u32, y: u32) -> u32
     ensures { result ≡ MUL x y }
 {
-    umull(x, y).low
+    x.wrapping_mul(y)
 }
 
+#[tactic(auto, unfolding(crate::specs::Product::MUL, crate::specs::Product::MLA))]
 pub fn mla(x: u32, y: u32, a: u32) -> u32
     ensures { result ≡ MLA x y a }
 {
-    std::num::wrapping_add_u32(a, mul(x, y))
+    a.wrapping_add(mul(x, y))
 }
 
 pub fn mls(x: u32, y: u32, a: u32) -> u32
     ensures { result ≡ MLS x y a }
 {
-    std::num::wrapping_sub_u32(a, mul(x, y))
+    a.wrapping_sub(mul(x, y))
 }
 
+#[tactic(auto, unfolding(crate::specs::Product::UMULL))]
 pub fn umull(x: u32, y: u32) -> Long
     ensures { result ≡ UMULL x y }
 {
     halves_of(product(x, y))
 }
 
+#[tactic(auto, unfolding(crate::specs::Product::UMLAL))]
 pub fn umlal(x: u32, y: u32, a: Long) -> Long
     ensures { result ≡ UMLAL x y a }
 {
-    halves_of(std::num::wrapping_add_u64(whole_of(a), product(x, y)))
+    halves_of(whole_of(a).wrapping_add(product(x, y)))
 }
 
+#[tactic(auto, unfolding(crate::specs::Product::SMULL))]
 pub fn smull(x: u32, y: u32) -> Long
     ensures { result ≡ SMULL x y }
 {
@@ -51,7 +56,7 @@ pub fn smull(x: u32, y: u32) -> Long
 pub fn smlal(x: u32, y: u32, a: Long) -> Long
     ensures { result ≡ SMLAL x y a }
 {
-    halves_of(std::num::wrapping_add_u64(whole_of(a), signed_product(x, y)))
+    halves_of(whole_of(a).wrapping_add(signed_product(x, y)))
 }
 
 pub fn halves_of(number: u64) -> Long
@@ -66,18 +71,18 @@ pub fn halves_of(number: u64) -> Long
 pub fn whole_of(a: Long) -> u64
     ensures { result ≡ whole a }
 {
-    (a.high as u64) << 32 | a.low as u64
+    u64::from(a.high) << 32 | u64::from(a.low)
 }
 
 fn product(x: u32, y: u32) -> u64
     ensures { result ≡ x * y }
 {
-    x as u64 * y as u64
+    u64::from(x) * u64::from(y)
 }
 
 // The bits of the signed product, which always fits 64 of them.
 fn signed_product(x: u32, y: u32) -> u64
     ensures { result ≡ wrapped 64 (signed x *ℤ signed y) }
 {
-    word::unsigned_long_of(word::signed_of(x) as i64 * word::signed_of(y) as i64)
+    word::unsigned_long_of(i64::from(word::signed_of(x)) * i64::from(word::signed_of(y)))
 }

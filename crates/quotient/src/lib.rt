@@ -8,7 +8,7 @@ ghost use Rattle.quotient.specs.Quotient.{UDIV, SDIV};
 pub fn udiv(x: u32, y: u32) -> u32
     ensures { result ≡ UDIV x y }
 {
-    if y == 0 { 0 } else { x / y }
+    x.checked_div(y).unwrap_or(0)
 }
 
 pub fn sdiv(x: u32, y: u32) -> u32
@@ -17,11 +17,6 @@ pub fn sdiv(x: u32, y: u32) -> u32
     if y == 0 {
         return 0;
     }
-    // The minimum by minus one is kept apart: its quotient is no i32.
-    if x == 0x8000_0000 {
-        if y == 0xffff_ffff {
-            return x;
-        }
-    }
-    word::unsigned_of(word::signed_of(x) / word::signed_of(y))
+    // The quotient of the minimum by minus one is no i32: it wraps to the minimum.
+    word::unsigned_of(word::signed_of(x).wrapping_div(word::signed_of(y)))
 }

@@ -9,6 +9,7 @@ use native.Mathlib.Omega.{arith}
 use borrow.Author.Tests.{eqb-true, leb-true}
 use lib.Dec.{eqb, leb}
 use lib.ListN.{length, get_or, drop, length-take}
+use Rattle.std.specs.Prelude.{Option, Some, None}
 use Rattle.std.specs.Bool.{if◌then◌else◌}
 use Rattle.word.proofs.Cases.{cases, both_true, either_true}
 use Rattle.little.specs.Little.{byte}
@@ -16,10 +17,6 @@ use Rattle.record.specs.declared.Record.{Record}
 use Rattle.fields.specs.Fields.{well_formed}
 use Rattle.kinds.specs.Kinds.{lengths, listing_length, names, record_of}
 use Rattle.reading.specs.declared.Place.{Place}
-use Rattle.reading.specs.declared.Read.{Read}
-use Rattle.reading.specs.declared.Read.TheVariants.{Is, Refused}
-use Rattle.reading.specs.declared.ReadAt.{ReadAt}
-use Rattle.reading.specs.declared.ReadAt.TheVariants.{Found, Nothing}
 use Rattle.reading.specs.Reading.{named, read_one, found_at, part, read_at}
 
 -- a test that every entry of a table passes
@@ -57,16 +54,16 @@ pub record Whole (r : List ℕ) (x : Record) : Type 0 where
   pub long : 2 ≤ length r
   pub formed : well_formed x ≡ true
 
-formed_as : (t : Bool) (r : Record) (x : Record) → well_formed r ≡ t → ◌≡◌ {A = Read} (if t then Is r else Refused) (Is x) → well_formed x ≡ true
+formed_as : (t : Bool) (r : Record) (x : Record) → well_formed r ≡ t → ◌≡◌ {A = Option Record} (if t then Some r else None) (Some x) → well_formed x ≡ true
 formed_as true r x h e = let f : r ≡ x = cc in rw f at h
 formed_as false r x h e = let z : ◌≡◌ {A = ℕ} 0 1 = cc in absurd (omega arith)
 
-pub read_whole : (r : List ℕ) (x : Record) → read_one r ≡ Is x → Whole r x
+pub read_whole : (r : List ℕ) (x : Record) → read_one r ≡ Some x → Whole r x
 unfolding read_one
 read_whole r x = go (eqb (length r) (listing_length (byte r 0)) && named r) refl
   where
     go : (t : Bool) → (eqb (length r) (listing_length (byte r 0)) && named r) ≡ t
-        → ◌≡◌ {A = Read} (if t then (if well_formed (record_of r) then Is (record_of r) else Refused) else Refused) (Is x) → Whole r x
+        → ◌≡◌ {A = Option Record} (if t then (if well_formed (record_of r) then Some (record_of r) else None) else None) (Some x) → Whole r x
     go true h e = record { long = whole_long r h; formed = formed_as (well_formed (record_of r)) (record_of r) x refl e }
     go false h e = let z : ◌≡◌ {A = ℕ} 0 1 = cc in absurd (omega arith)
 
@@ -75,25 +72,26 @@ pub record Ahead (listing : List ℕ) (place : ℕ) (r : Record) (next : Place) 
   pub on : place + 2 ≤ next.0
   pub inside : next.0 ≤ length listing
   pub formed : well_formed r ≡ true
-  pub read : read_one (part listing place) ≡ Is r
+  pub read : read_one (part listing place) ≡ Some r
 
-pub ahead : (listing : List ℕ) (place : ℕ) (r : Record) (next : Place) → read_at listing place ≡ Found r next → Ahead listing place r next
+pub ahead : (listing : List ℕ) (place : ℕ) (r : Record) (next : Place) → read_at listing place ≡ Some (r, next) → Ahead listing place r next
 unfolding read_at found_at
 ahead listing place r next = go (leb (place + listing_length (byte listing place)) (length listing)) refl
   where
     size : ℕ
     size = listing_length (byte listing place)
 
-    came : (x : Read) → read_one (part listing place) ≡ x → place + size ≤ length listing → found_at x (place + size) ≡ Found r next → Ahead listing place r next
-    came (Is x) f h e =
-        let n : next.0 ≡ place + size = cc in
-        let same : x ≡ r = cc in
+    came : (x : Option Record) → read_one (part listing place) ≡ x → place + size ≤ length listing → found_at x (place + size) ≡ Some (r, next) → Ahead listing place r next
+    came (Some x) f h e =
+        let pair : ◌≡◌ {A = Record × Place} (x, record { 0 = place + size }) (r, next) = cc in
+        let n : place + size ≡ next.0 = ap (λ (p : Record × Place). p.1.0) pair in
+        let same : x ≡ r = ap (λ (p : Record × Place). p.0) pair in
         let l = length-take size (drop place listing) in
         let whole = read_whole (part listing place) x f in
-        record { on = omega arith; inside = omega arith; formed = rw same at whole.formed; read = f ∙ ap Is same }
-    came Refused f h e = let z : ◌≡◌ {A = ℕ} 0 1 = cc in absurd (omega arith)
+        record { on = omega arith; inside = omega arith; formed = rw same at whole.formed; read = f ∙ ap Some same }
+    came None f h e = let z : ◌≡◌ {A = ℕ} 0 1 = cc in absurd (omega arith)
 
     go : (t : Bool) → leb (place + size) (length listing) ≡ t
-        → ◌≡◌ {A = ReadAt} (if t then found_at (read_one (part listing place)) (place + size) else Nothing) (Found r next) → Ahead listing place r next
+        → ◌≡◌ {A = Option (Record × Place)} (if t then found_at (read_one (part listing place)) (place + size) else None) (Some (r, next)) → Ahead listing place r next
     go true h e = came (read_one (part listing place)) refl (leb-true (place + size) (length listing) h) e
     go false h e = let z : ◌≡◌ {A = ℕ} 0 1 = cc in absurd (omega arith)

@@ -2,32 +2,18 @@
 
 #![tactic(auto)]
 
-ghost use Rattle.std.specs.Prelude.{◌≡◌};
-ghost use Rattle.std.specs.Prelude.{if◌then◌else◌};
+ghost use Rattle.std.specs.Prelude.{◌≡◌, if◌then◌else◌, Some, None};
 ghost use Rattle.fields.specs.Fields.{well_formed};
 ghost use Rattle.reading.specs.Reading.{coded, named, read_one, part, read_at};
 
 use record::Record;
 
 // A place counts listing bytes.
-#[derive(Clone, Copy)]
+#[derive(Clone, Copy, Debug, PartialEq, Eq)]
 pub struct Place(pub usize);
 
-// What bytes are that must be one record and no more.
-#[derive(Clone, Copy)]
-pub enum Read {
-    Is(Record),
-    Refused,
-}
-
-// What stands at a place of a listing: a record, with the place after it, or nothing that is one.
-#[derive(Clone, Copy)]
-pub enum ReadAt {
-    Found(Record, Place),
-    Nothing,
-}
-
-// The numbers that stand for names.
+// The numbers that stand for names: they are tested here, as bytes, before `kinds` makes names of them.
+#[tactic(auto, unfolding(crate::specs::Reading::named))]
 fn is_named(r: [u8; 9]) -> bool
     ensures { result ≡ named r }
 {
@@ -43,7 +29,8 @@ fn is_named(r: [u8; 9]) -> bool
     (r[1] < kinds::names_of(kind)) & (r[2] < 4) & is_coded(r, kind)
 }
 
-// A shift, a mode, or whether the base is written back.
+// A shift, a mode, or whether the base is written back; by the byte of the kind (`kinds::record_from` says why).
+#[tactic(auto, unfolding(crate::specs::Reading::coded))]
 fn is_coded(r: [u8; 9], kind: u8) -> bool
     ensures { result ≡ coded r kind }
 {
@@ -57,44 +44,33 @@ fn is_coded(r: [u8; 9], kind: u8) -> bool
     }
 }
 
-pub fn read_all(r: &[u8]) -> Read
+pub fn read_all(r: &[u8]) -> Option<Record>
     ensures { result ≡ read_one r.now }
 {
     let bytes = kinds::nine_of(r);
     let size = kinds::listing_length_of(bytes[0]);
     let whole = (r.len() == size as usize) & is_named(bytes);
     if whole {
-        return judged(kinds::record_from(bytes));
+        formed(kinds::record_from(bytes))
+    } else {
+        None
     }
-    Read::Refused
 }
 
-fn judged(r: Record) -> Read
-    ensures { result ≡ (if well_formed r then Read.Is r else Read.Refused) }
+fn formed(r: Record) -> Option<Record>
+    ensures { result ≡ (if well_formed r then Some r else None) }
 {
-    let formed = fields::is_well_formed(r);
-    if formed {
-        return Read::Is(r);
-    }
-    Read::Refused
+    fields::is_well_formed(r).then_some(r)
 }
 
-pub fn read_next(listing: &[u8], place: Place) -> ReadAt
+pub fn read_next(listing: &[u8], place: Place) -> Option<(Record, Place)>
     ensures { result ≡ read_at listing.now place.0 }
 {
     let at = place.0;
     let size = kinds::listing_length_of(little::byte_at(listing, at)) as usize;
-    if listing.len() < at {
-        return ReadAt::Nothing;
-    }
-    if listing.len() - at < size {
-        return ReadAt::Nothing;
-    }
-    let next = at + size;
-    let Read::Is(record) = read_all(&listing[at..next]) else {
-        return ReadAt::Nothing;
-    };
-    ReadAt::Found(record, Place(next))
+    let rest = listing.get(at..)?;
+    let record = read_all(rest.get(..size)?)?;
+    Some((record, Place(at + size)))
 }
 
 // The bytes at a place, as many as the kind there has.
@@ -103,13 +79,6 @@ pub fn part_of(listing: &[u8], place: Place) -> &[u8]
 {
     let at = place.0;
     let size = kinds::listing_length_of(little::byte_at(listing, at)) as usize;
-    let end = listing.len();
-    if end < at {
-        return &listing[end..];
-    }
-    if end - at < size {
-        return &listing[at..];
-    }
-    let next = at + size;
-    &listing[at..next]
+    let rest = &listing[at.min(listing.len())..];
+    &rest[..size.min(rest.len())]
 }

@@ -2,6 +2,7 @@
 
 #![tactic(auto)]
 
+mod code;
 pub mod op;
 pub mod register;
 

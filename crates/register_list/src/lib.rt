@@ -8,18 +8,18 @@ ghost use Rattle.register_list.specs.List.{member, members_below};
 pub fn holds(list: u16, register: u32) -> bool
     ensures { result ≡ member list register }
 {
-    word::bit_of(register, list as u32)
+    word::bit_of(register, u32::from(list))
 }
 
 pub fn count(list: u16) -> u32
     ensures { result ≡ members_below 16 list }
 {
-    u16::count_ones(list)
+    list.count_ones()
 }
 
 // The members among the registers below one.
 pub fn count_below(list: u16, register: u32) -> u32
     ensures { result ≡ members_below register list }
 {
-    u32::count_ones(list as u32 & word::ones(register))
+    (u32::from(list) & word::ones(register)).count_ones()
 }

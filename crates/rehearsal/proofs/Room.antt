@@ -1,26 +1,18 @@
 -- How a text comes into lent room, and that it is never longer than a text by value can be.
-use Prim.Native.Nat.{ℕ, suc, ◌+◌, ◌≤◌, ◌<◌}
-use mathlib.Core.Path.{◌≡◌, sym, ◌∙◌, ap}
-use mathlib.Core.List.{List, ◌++◌}
-use native.Mathlib.Numerals.{add-one}
-use native.Mathlib.Omega.{arith}
+use Prim.Native.Nat.{ℕ, ◌≤◌}
+use mathlib.Core.Path.{◌≡◌, ap}
+use mathlib.Core.List.{List}
 use lib.Dec.{ltb, eqb}
-use lib.ListN.{length, take, drop, get_or, set, replicate}
-use lib.Seq.{drop-cons, take-suc, append_snoc, set_at, length-take-le}
+use lib.ListN.{length, replicate}
 use Rattle.setup.specs.Setup.{at_base}
 use Rattle.word.proofs.Cases.{cases, yes_or_no}
-use Rattle.listing.specs.declared.Checked.{Checked}
-use Rattle.listing.specs.Check.{checked}
+use Rattle.listing.specs.Check.{Checked, checked}
 use Rattle.machine.specs.declared.Machine.{Machine}
-use Rattle.run.specs.declared.Halted.{Halted}
 use Rattle.run.specs.Run.{rehearsal, state}
-use Rattle.run.specs.Place.{fresh_run, Halting, halting, halt}
-use Rattle.text.specs.Code.{blank, appended}
-use Rattle.text.proofs.Texts.{check_length, end_length, Whole, whole}
+use Rattle.run.specs.Place.{Halted, fresh_run, Halting, halting, halt}
+use Rattle.text.proofs.Texts.{check_length, end_length}
 use Rattle.rehearsal.specs.declared.Answer.{Answer}
-use Rattle.rehearsal.specs.declared.Page.{Page}
-use Rattle.rehearsal.specs.Code.{page}
-use Rattle.rehearsal.specs.Program.{program_start, ran, run_text, text_after, text_of, place_of, stored_of, Told, told, rehearsed}
+use Rattle.rehearsal.specs.Program.{program_start, ran, run_text, text_after, text_of, Told, told, rehearsed}
 
 pub ran_is : (r : Halted) (m : Machine) (budget : ℕ) (listing memory : List ℕ) → m ≡ program_start
     → halting r memory
@@ -43,21 +35,7 @@ text_length budget listing =
     (λ e. rw e (check_length 1 0))
     (λ e. rw e (after_length (checked listing 0x1000) (ran budget listing)))
 
-pub whole_page : (g : Page) (budget : ℕ) (listing : List ℕ)
-    → g ≡ page (appended blank (text_of budget listing)) (place_of budget listing) (stored_of budget listing)
-    → Whole g.text (text_of budget listing)
-whole_page g budget listing e = rw e (whole (text_of budget listing) (text_length budget listing))
-
 pub told_short : (answer : Answer) (budget : ℕ) (listing room after : List ℕ) → told answer after ≡ rehearsed budget listing room
     → answer.length ≤ 256
 unfolding rehearsed
 told_short answer budget listing room after e = rw (ap (λ (t : Told). t.answer.length) e) (text_length budget listing)
-
--- one more byte copied to the front of a room
-pub laid_next : (bytes room : List ℕ) (i : ℕ) → i < length bytes → i < length room
-    → set (take i bytes ++ drop i room) i (get_or bytes i 0) ≡ take (i + 1) bytes ++ drop (i + 1) room
-laid_next bytes room i h k =
-    let byte = get_or bytes i 0 in
-    rw (add-one, drop-cons room i 0 k, take-suc bytes i 0 h)
-    (set_at (take i bytes) (get_or room i 0) (drop (suc i) room) byte i (length-take-le i bytes (omega arith))
-    ∙ sym (append_snoc (take i bytes) byte (drop (suc i) room)))

@@ -1,18 +1,15 @@
 -- "The program reads a listing of at most 32,768 bytes (more is number 1), base 0x1000, memory 32,768 zero bytes at 0x20000000, R13
 -- 0x20008000, R15 0x1000, all else 0, budget 1,000,000. If the check refuses, it writes one line, as `check 2 at 17`, and no more
 -- (`check 1 at 0` for too many bytes). Any other end is written as below".
-use Rattle.std.specs.Prelude.{ℕ, List, ◌++◌, leb, ltb, eqb, length, drop, replicate}
+use Rattle.std.specs.Prelude.{ℕ, List, ◌++◌, leb, ltb, eqb, length, drop, replicate, Option, None}
 use Rattle.std.specs.Bool.{if◌then◌else◌}
 use Rattle.setup.specs.Setup.{at_base}
-use Rattle.listing.specs.declared.Checked.{Checked}
-use Rattle.listing.specs.Check.{checked}
+use Rattle.listing.specs.Check.{Checked, checked}
 use Rattle.machine.specs.declared.Machine.{Machine}
 use Rattle.machine.specs.Machine.{SP, PC, fresh, written}
-use Rattle.run.specs.declared.Stored.{Stored}
-use Rattle.run.specs.declared.Stored.TheVariants.{None}
-use Rattle.run.specs.declared.Halted.{Halted}
+use Rattle.reading.specs.declared.Place.{Place}
 use Rattle.run.specs.Run.{rehearsal, state}
-use Rattle.run.specs.Place.{fresh_run, halt}
+use Rattle.run.specs.Place.{Halted, fresh_run, halt}
 use Rattle.text.specs.Text.{check_text, end_text}
 use Rattle.rehearsal.specs.declared.Answer.{Answer}
 
@@ -49,10 +46,10 @@ place_of budget listing =
     if ltb 32768 (length listing) then 0 else place_after (checked listing 0x1000) (ran budget listing)
 
 -- the stored place that the run leaves; none where there is no run
-unfoldable pub stored_after : Checked → Halted → Stored
+unfoldable pub stored_after : Checked → Halted → Option Place
 stored_after c r = if eqb c.number 0 then r.running.stored else None
 
-unfoldable pub stored_of : ℕ → List ℕ → Stored
+unfoldable pub stored_of : ℕ → List ℕ → Option Place
 stored_of budget listing =
     if ltb 32768 (length listing) then None else stored_after (checked listing 0x1000) (ran budget listing)
 

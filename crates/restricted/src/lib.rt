@@ -9,6 +9,7 @@ ghost use Rattle.restricted.specs.Restricted.{allowed};
 
 use record::{Record, register};
 
+#[tactic(auto, unfolding(crate::specs::Restricted::allowed))]
 pub fn is_allowed(r: Record) -> bool
     ensures { result ≡ allowed r }
 {
@@ -32,14 +33,11 @@ pub fn is_allowed(r: Record) -> bool
         Record::DualAccess(d) => parts::dual_access_of(d),
         Record::MultipleAccess(d) => parts::multiple_access_of(d),
         Record::Branch(_) => true,
-        Record::RegisterBranch(d) => {
-            let op = d.op;
-            !(record::op::is_blx_of(op) & (d.rm == register::PC))
-        }
+        Record::RegisterBranch(d) => !(d.op.is_blx() & (d.rm == register::PC)),
         Record::CompareBranch(_) => true,
-        Record::IfThen(d) => !(d.condition == 14) | (d.elses == 0),
+        Record::IfThen(d) => (d.condition != 14) | (d.elses == 0),
         Record::Nop(_) => true,
-        Record::TableBranch(d) => !(d.rn == register::SP) & parts::plain_of(d.rm),
+        Record::TableBranch(d) => (d.rn != register::SP) & parts::plain_of(d.rm),
         Record::Filler(_) => false,
     }
 }

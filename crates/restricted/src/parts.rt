@@ -13,43 +13,45 @@ use record::{
 pub fn plain_of(n: u8) -> bool
     ensures { result ≡ plain n }
 {
-    !((n == register::SP) | (n == register::PC))
+    (n != register::SP) & (n != register::PC)
 }
 
 pub fn shifted_register_of(d: ShiftedRegisterFields) -> bool
     ensures { result ≡ shifted_register_allowed d }
 {
-    let op = d.op;
-    let shift = d.shift;
-    let code = record::op::data_code_of(op);
-    let lsl = record::op::is_lsl_of(shift);
+    let lsl = d.shift.is_lsl();
     let straight = lsl & (d.amount == 0) & !d.form.s;
     let rm = plain_of(d.rm);
-    (code == 10) & straight
-        | (code == 0) & straight & (d.rd == register::PC) & (d.rn == register::PC) & rm
-        | first_operand_of(op, d.rn) & result_of(op, d.rd, d.rn, lsl & (d.amount <= 3)) & rm
+    matches!(d.op, DataOp::Mov) & straight
+        | matches!(d.op, DataOp::Add)
+            & straight
+            & (d.rd == register::PC)
+            & (d.rn == register::PC)
+            & rm
+        | first_operand_of(d.op, d.rn) & result_of(d.op, d.rd, d.rn, lsl & (d.amount <= 3)) & rm
 }
 
 pub fn constant_of(d: ConstantFields) -> bool
     ensures { result ≡ constant_allowed d }
 {
-    let op = d.op;
-    first_operand_of(op, d.rn) & result_of(op, d.rd, d.rn, true)
+    first_operand_of(d.op, d.rn) & result_of(d.op, d.rd, d.rn, true)
 }
 
 fn first_operand_of(op: DataOp, rn: u8) -> bool
     ensures { result ≡ first_operand op rn }
 {
-    let code = record::op::data_code_of(op);
     plain_of(rn)
-        | (rn == register::SP) & ((code == 0) | (code == 2) | ((code == 12) | (code == 13)))
+        | (rn == register::SP) & matches!(op, DataOp::Add | DataOp::Sub | DataOp::Cmp | DataOp::Cmn)
 }
 
 fn result_of(op: DataOp, rd: u8, rn: u8, small: bool) -> bool
     ensures { result ≡ result_register op rd rn small }
 {
-    let code = record::op::data_code_of(op);
-    plain_of(rd) | (rd == register::SP) & ((code == 0) | (code == 2)) & (rn == register::SP) & small
+    plain_of(rd)
+        | (rd == register::SP)
+            & matches!(op, DataOp::Add | DataOp::Sub)
+            & (rn == register::SP)
+            & small
 }
 
 pub fn add_number_of(d: AddNumberFields) -> bool
@@ -71,7 +73,7 @@ pub fn multiply_of(d: MultiplyFields) -> bool
 pub fn long_multiply_of(d: LongMultiplyFields) -> bool
     ensures { result ≡ long_multiply_allowed d }
 {
-    plain_of(d.low) & plain_of(d.high) & plain_of(d.rn) & plain_of(d.rm) & !(d.low == d.high)
+    plain_of(d.low) & plain_of(d.high) & plain_of(d.rn) & plain_of(d.rm) & (d.low != d.high)
 }
 
 fn transferred_of(op: AccessOp, rt: u8) -> bool
@@ -79,58 +81,46 @@ fn transferred_of(op: AccessOp, rt: u8) -> bool
 {
     match op {
         AccessOp::Ldr => true,
-        AccessOp::Ldrb => plain_of(rt),
-        AccessOp::Ldrh => plain_of(rt),
-        AccessOp::Ldrsb => plain_of(rt),
-        AccessOp::Ldrsh => plain_of(rt),
-        AccessOp::Str => !(rt == register::PC),
-        AccessOp::Strb => plain_of(rt),
-        AccessOp::Strh => plain_of(rt),
+        AccessOp::Str => rt != register::PC,
+        _ => plain_of(rt),
     }
 }
 
 pub fn access_of(d: AccessFields) -> bool
     ensures { result ≡ access_allowed d }
 {
-    let op = d.op;
-    let mode = d.mode;
-    let offset = record::op::is_offset_of(mode);
-    transferred_of(op, d.rt)
-        & (!(d.rn == register::PC) | record::op::loads_of(op) & offset)
-        & (offset | !(d.rn == d.rt))
+    let offset = d.mode.is_offset();
+    transferred_of(d.op, d.rt)
+        & ((d.rn != register::PC) | d.op.loads() & offset)
+        & (offset | (d.rn != d.rt))
 }
 
 pub fn indexed_access_of(d: IndexedAccessFields) -> bool
     ensures { result ≡ indexed_access_allowed d }
 {
-    let op = d.op;
-    transferred_of(op, d.rt) & !(d.rn == register::PC) & plain_of(d.rm)
+    transferred_of(d.op, d.rt) & (d.rn != register::PC) & plain_of(d.rm)
 }
 
 pub fn dual_access_of(d: DualAccessFields) -> bool
     ensures { result ≡ dual_access_allowed d }
 {
-    let op = d.op;
-    let mode = d.mode;
-    let loads = record::op::loads_dual_of(op);
-    let offset = record::op::is_offset_of(mode);
+    let loads = d.op.loads();
+    let offset = d.mode.is_offset();
     plain_of(d.rt)
         & plain_of(d.rt2)
-        & (!loads | !(d.rt == d.rt2))
-        & (!(d.rn == register::PC) | loads & offset)
-        & (offset | !(d.rn == d.rt) & !(d.rn == d.rt2))
+        & (!loads | (d.rt != d.rt2))
+        & ((d.rn != register::PC) | loads & offset)
+        & (offset | (d.rn != d.rt) & (d.rn != d.rt2))
 }
 
 pub fn multiple_access_of(d: MultipleAccessFields) -> bool
     ensures { result ≡ multiple_access_allowed d }
 {
-    let op = d.op;
-    let list = d.list;
-    let pc = register_list::holds(list, register::PC as u32);
-    !(list == 0)
-        & !register_list::holds(list, register::SP as u32)
-        & !(pc & !record::op::loads_many_of(op))
-        & !(register_list::holds(list, register::LR as u32) & pc)
-        & !(d.writeback & register_list::holds(list, d.rn as u32))
-        & !(d.rn == register::PC)
+    let pc = register_list::holds(d.list, register::PC as u32);
+    (d.list != 0)
+        & !register_list::holds(d.list, register::SP as u32)
+        & !(pc & !d.op.loads())
+        & !(register_list::holds(d.list, register::LR as u32) & pc)
+        & !(d.writeback & register_list::holds(d.list, d.rn as u32))
+        & (d.rn != register::PC)
 }

@@ -10,10 +10,11 @@ ghost use Rattle.reverse.specs.Reverse.{CLZ, REV, REV16, REVSH, RBIT};
 pub fn clz(x: u32) -> u32
     ensures { result ≡ CLZ x }
 {
-    u32::leading_zeros(x)
+    x.leading_zeros()
 }
 
 // The bytes of each half exchanged, and then the halves.
+#[tactic(auto, unfolding(shift::specs::Shift::rotated, crate::specs::Reverse::REV16, crate::specs::Reverse::REV))]
 pub fn rev(x: u32) -> u32
     ensures { result ≡ REV x }
 {
@@ -26,13 +27,15 @@ pub fn rev16(x: u32) -> u32
     ((x & 0x00ff_00ff) << 8) | ((x >> 8) & 0x00ff_00ff)
 }
 
+#[tactic(auto, unfolding(crate::specs::Reverse::REVSH))]
 pub fn revsh(x: u32) -> u32
     ensures { result ≡ REVSH x }
 {
     field::sbfx(rev16(x), 0, 16)
 }
 
-// Halves exchanged, then the bytes of each half, and so on down to neighbouring bits.
+// By swaps, as order 3 (docs/orders/03.md) has it, and not by the library's `reverse_bits`: halves exchanged, then the bytes of each half, and so
+// on down to neighbouring bits.
 pub fn rbit(x: u32) -> u32
     ensures { result ≡ RBIT x }
 {

@@ -4,3 +4,4 @@ pub mod Rounds
 pub mod Steps
 pub mod Spots
 pub mod Racing
+pub mod Told

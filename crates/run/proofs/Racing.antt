@@ -1,12 +1,16 @@
 -- The rounds on the machine's parts are the rounds of the definition.
 use Prim.Native.Nat.{ℕ, zero, suc, ◌+◌, ◌-◌, ◌%◌, ◌^◌, ◌≤◌}
-use mathlib.Core.Bool.{Bool, true, false}
+use mathlib.Core.Bool.{true, false}
 use mathlib.Core.List.{List}
 use mathlib.Core.Path.{◌≡◌, refl, sym, ap, ◌∙◌}
 use native.Mathlib.Omega.{arith}
-use borrow.Author.Tests.{eqb-true, eq-eqb, ne_eqb}
+use borrow.Author.Tests.{eqb-true, eqb-false, eq-eqb, ne_eqb}
 use lib.Dec.{eqb}
 use lib.ListN.{length, get_or, take, drop}
+use Rattle.std.specs.Prelude.{Result, Ok, Err, IsErrAnd}
+use Rattle.refusal.specs.declared.Refusal.{Refusal}
+use Rattle.refusal.specs.Refusal.{number}
+use Rattle.refusal.proofs.Laws.{some_number}
 use Rattle.word.proofs.Cases.{cases, yes_or_no}
 use Rattle.little.specs.Little.{byte}
 use Rattle.waiting.specs.declared.Waiting.{Waiting}
@@ -23,11 +27,13 @@ use Rattle.listing.proofs.Accepted.{Accepted}
 use Rattle.machine.specs.declared.Machine.{Machine}
 use Rattle.machine.specs.Machine.{PC, held, Outcome, keeping}
 use Rattle.machine.specs.Step.{obeyed}
-use Rattle.lent.specs.Lent.{assembled, flags_in, came}
+use Rattle.flags.specs.declared.Flags.{Flags}
+use Rattle.lent.specs.Lent.{assembled, came}
 use Rattle.pace.specs.Pace.{Ready, ahead_in}
 use Rattle.run.specs.declared.Sight.{Sight}
+use Rattle.run.specs.declared.race.Stride.{Stride}
 use Rattle.run.specs.Run.{Rehearsal, State, faced, attempted, round_at, round, over, continued, used_up, rounds}
-use Rattle.run.specs.Code.{Fit, parts_of, spot, kind_there, followed_to, counted, Nowhere, At, SteppedSo}
+use Rattle.run.specs.Code.{Fit, parts_of, spot, kind_there, followed_to, counted, Nowhere, At, LedOn, SteppedSo}
 use Rattle.run.proofs.Rounds.{facing_there, step_there}
 use Rattle.run.proofs.Spots.{KindMet, kind_met, at_point, at_spot}
 use Rattle.run.proofs.Steps.{next_state, stands, q, on, ready, untested, result, next_fit, waits_next, next_at}
@@ -93,56 +99,63 @@ module _ (h : Rehearsal) (ok : Accepted h.listing h.base) (s : State) (fit : Fit
   pub ready_here : Ready bytes m.waiting
   ready_here = rw here at (ready h ok s fit r p e)
 
+  -- the same of a size that the code has looked up
+  module _ (size : ℕ) (is : size ≡ listing_length kind) where
+    pub within_so : place + size ≤ length h.listing
+    within_so = rw is inside
+
+    pub taken_so : take (place + size - place) (drop place h.listing) ≡ bytes
+    taken_so = rw is taken
+
+    pub ready_so : Ready (take (place + size - place) (drop place h.listing)) m.waiting
+    ready_so = rw taken_so ready_here
+
   what : r ≡ record_of bytes
   what = rw here at met.what
 
-  module _ (number : ℕ) (registers : List ℕ) (marks : List Bool) (memory : List ℕ)
-      (steps : keeping (came number registers (flags_in marks) m.waiting (after (record_of bytes) m.waiting)) memory
+  module _ (number : ℕ) (registers : List ℕ) (flags : Flags) (memory : List ℕ)
+      (steps : keeping (came number registers flags m.waiting (after (record_of bytes) m.waiting)) memory
       ≡ obeyed m (record_of bytes) s.memory h.setup) where
     outcome : step_there h s p.place
-        ≡ keeping (came number registers (flags_in marks) m.waiting (after (record_of bytes) m.waiting)) memory
+        ≡ keeping (came number registers flags m.waiting (after (record_of bytes) m.waiting)) memory
     outcome = untested h ok s fit r p e ∙ (ap (λ (x : Record). obeyed m x s.memory h.setup) what ∙ sym steps)
 
     numbered : (step_there h s p.place).answer.number ≡ number
     numbered = ap (λ (o : Outcome). o.answer.number) outcome
 
     -- a refused step leaves all as it was
-    refused_here : (number ≡ 0 → ⊥) → (left : ℕ) → rounds (suc left) h s ≡ over number place (parts_of registers marks m.waiting memory)
+    refused_here : (number ≡ 0 → ⊥) → (left : ℕ) → rounds (suc left) h s ≡ over number place (parts_of registers flags m.waiting memory)
     unfolding rounds round round_at attempted
     refused_here n left =
         let o = step_there h s p.place in
         let given = (result h ok s fit r p e).as_given (λ z. n (sym numbered ∙ z)) in
-        let back : assembled registers (flags_in marks) m.waiting ≡ m =
+        let back : assembled registers flags m.waiting ≡ m =
         rw (ne_eqb number 0 n) at (sym (ap (λ (x : Outcome). x.answer.machine) outcome) ∙ given.0)
         in
         let kept : memory ≡ s.memory = sym (ap (λ (x : Outcome). x.memory) outcome) ∙ given.1 in
         rw (e, ne_eqb o.answer.number 0 (λ z. n (sym numbered ∙ z)), numbered, here, back, kept)
-
-    pub refused_so : (number ≡ 0 → ⊥) → (place' kind' : ℕ)
-        → SteppedSo h s place (record { number = number; place = place'; kind = kind'; waiting = m.waiting }) (parts_of registers marks m.waiting memory)
-    refused_so n place' kind' = record { refused = λ z. refused_here n; done = λ z. absurd (n z) }
 
     module _ (done : number ≡ 0) where
       abbrev waits : Waiting
       waits = after (record_of bytes) m.waiting
 
       abbrev x : Machine
-      x = assembled registers (flags_in marks) waits
+      x = assembled registers flags waits
 
       fine : (step_there h s p.place).answer.number ≡ 0
       fine = numbered ∙ done
 
-      to_state : next_state h s p ≡ parts_of registers marks waits memory
+      to_state : next_state h s p ≡ parts_of registers flags waits memory
       to_state = rw (outcome, done)
 
-      fit_next : Fit h (parts_of registers marks waits memory)
+      fit_next : Fit h (parts_of registers flags waits memory)
       fit_next = rw (← to_state) (next_fit h ok s fit r p e fine)
 
-      round_done : (count left : ℕ) → counted h count (rounds (suc left) h s) ≡ counted h (count + 1) (rounds left h (parts_of registers marks waits memory))
+      round_done : (count left : ℕ) → counted h count (rounds (suc left) h s) ≡ counted h (count + 1) (rounds left h (parts_of registers flags waits memory))
       unfolding rounds round round_at attempted counted
       round_done count left =
           let more : (n : ℕ) → count + suc n ≡ count + 1 + n = λ n. omega arith in
-          rw (e, eq-eqb (step_there h s p.place).answer.number 0 fine, to_state, more (length (rounds left h (parts_of registers marks waits memory)).steps))
+          rw (e, eq-eqb (step_there h s p.place).answer.number 0 fine, to_state, more (length (rounds left h (parts_of registers flags waits memory)).steps))
 
       waits_there : x.waiting ≡ next.waiting
       waits_there = ap (λ (t : State). t.machine.waiting) (sym to_state) ∙ waits_next h ok s fit r p e fine
@@ -169,7 +182,14 @@ module _ (h : Rehearsal) (ok : Accepted h.listing h.base) (s : State) (fit : Fit
 
       pub done_so : (ahead to kind' : ℕ) (waits' : Waiting) → waits' ≡ waits → ahead ≡ ahead_in m.registers bytes
           → to ≡ followed_to registers waits' ahead (place + listing_length kind) h.listing h.base → kind' ≡ kind_there h.listing to
-          → SteppedSo h s place (record { number = 0; place = to; kind = kind'; waiting = waits' }) (parts_of registers marks waits' memory)
+          → LedOn h s (parts_of registers flags waits' memory) to kind'
       done_so ahead to kind' waits' w a f k =
           let there = at_next ahead to a (rw w at f) in
-          rw (k, w) (record { refused = λ n. absurd (n refl); done = λ z. record { fit = fit_next; at = there; on = round_done } })
+          rw (k, w) (record { fit = fit_next; at = there; on = round_done })
+
+  pub refused_so : (k : Refusal) (registers : List ℕ) (flags : Flags) (memory : List ℕ)
+      → keeping (came (number k) registers flags m.waiting (after (record_of bytes) m.waiting)) memory ≡ obeyed m (record_of bytes) s.memory h.setup
+      → (q : Result Stride Refusal) → IsErrAnd q (λ e. e ≡ k) → SteppedSo h s place q registers flags memory
+  refused_so k registers flags memory steps (Ok x) on = absurd on
+  refused_so k registers flags memory steps (Err e) on =
+      λ left. rw on (refused_here (number k) registers flags memory steps (eqb-false (number k) 0 (some_number k)) left)

@@ -21,8 +21,7 @@ use Rattle.machine.specs.Machine.{PC, held, good, Outcome}
 use Rattle.machine.specs.Step.{stepped}
 use Rattle.run.specs.declared.Sight.{Sight}
 use Rattle.run.specs.declared.Sight.TheVariants.{AtRecord, AtEnd, AtNone}
-use Rattle.run.specs.declared.Stored.{Stored}
-use Rattle.run.specs.declared.Stored.TheVariants.{None}
+use Rattle.std.specs.Prelude.{Option, None}
 use Rattle.run.specs.declared.seat.Seat.{Seat}
 use Rattle.run.specs.Run.{Rehearsal, State, Course, agreeing, over, used_up, rounds, run_of, Ending, ending, outcome}
 use Rattle.run.specs.Place.{place_in, walks_place, same_place, begins, journey, fresh_run, resumed, Halting, halting, halt}
@@ -95,7 +94,7 @@ module _ (budget : ℕ) (h : Rehearsal) (s : State) where
       go true false = refl
       go false a = refl
 
-  pub proceeded_resumed : (stored : Stored) → proceeded false budget h s stored ≡ resumed budget h s stored
+  pub proceeded_resumed : (stored : Option Place) → proceeded false budget h s stored ≡ resumed budget h s stored
   unfolding proceeded resumed run_of begins
   proceeded_resumed stored = go fit (eqb (checked h.listing h.base).number 0) (same_place stored (walks_place h s.machine))
     where

@@ -22,15 +22,20 @@ use Rattle.layout.proofs.Turns.{Passed}
 use Rattle.layout.proofs.Members.{On, start_on, on_within, next_on, on_found, on_gap, below_start, Standing, stands_on}
 use Rattle.layout.proofs.Blocks.{nothing_waits, unparted, unparted_at, parted_aside}
 use Rattle.landing.specs.declared.Landing.{Landing}
-use Rattle.landing.specs.declared.Last.{Last}
-use Rattle.landing.specs.declared.Last.TheVariants.{At}
+use Rattle.std.specs.Prelude.{Option, Some, None}
 use Rattle.landing.specs.Landing.{lands_here}
-use Rattle.landing.specs.Code.{Table, last_to, Tells}
-use Rattle.landing.proofs.Tabling.{Lands, last_lands}
-use Rattle.listing.proofs.Accepted.{Accepted, not_stopped, end_waits}
-use Rattle.run.specs.declared.Stored.TheVariants.{In, None}
+use Rattle.landing.specs.Code.{last_to, Tells}
+use Rattle.landing.proofs.Entries.{tells, Lands, last_lands}
+use Rattle.listing.proofs.Accepted.{Accepted, parts, sound_low, not_stopped, end_waits}
+use Rattle.run.specs.Chart.{Known}
 use Rattle.run.specs.Place.{place_in}
 use Rattle.run.specs.Code.{due_at, seat, seat_at, sat, Like, Ahead, Seated}
+
+-- the landing places of an accepted listing tell them all
+known_tells : (listing : List ℕ) (base : ℕ) (ls : List Landing) → Known listing base ls → Tells ls listing base
+known_tells listing base ls known =
+    let p = parts listing base known.0 in
+    rw known.1 (tells listing base (λ q o. omega (arith, sound_low listing base p.first q o)) p.size)
 
 -- a point of the layout stands for itself, and without what a filler is told by
 pub like_self : (listing : List ℕ) (base : ℕ) (p : Point) → On listing base p → Like listing base p
@@ -50,12 +55,12 @@ module _ (listing : List ℕ) (base : ℕ) (ok : Accepted listing base) where
   seat_here p o = rw (on_found listing base p o) (go (meets listing p) refl)
     where
       go : (t : Met) → meets listing p ≡ t
-          → seat (place_in (length listing) (standing t p)) (due_at (standing t p)) ≡ (if filled t then seat None nothing else seat (In p.place) p.waiting)
+          → seat (place_in (length listing) (standing t p)) (due_at (standing t p)) ≡ (if filled t then seat None nothing else seat (Some p.place) p.waiting)
       go (Onward r q) e = chosen (fills (way r))
         where
           chosen : (f : Bool)
               → seat (place_in (length listing) (if f then Stray else Stands r p)) (due_at (if f then Stray else Stands r p))
-              ≡ (if f then seat None nothing else seat (In p.place) p.waiting)
+              ≡ (if f then seat None nothing else seat (Some p.place) p.waiting)
           chosen true = refl
           chosen false = refl
       go AtEnd e =
@@ -64,7 +69,7 @@ module _ (listing : List ℕ) (base : ℕ) (ok : Accepted listing base) where
       go (Refusal number) e = absurd (not_stopped listing base ok p o number e)
 
   -- where no filler stands
-  seat_standing : (p : Point) → On listing base p → filled (meets listing p) ≡ false → seat (In p.place) p.waiting ≡ seat_at listing base p.address.0
+  seat_standing : (p : Point) → On listing base p → filled (meets listing p) ≡ false → seat (Some p.place) p.waiting ≡ seat_at listing base p.address.0
   unfolding sat
   seat_standing p o n = sym (rw n at (seat_here p o))
 
@@ -108,10 +113,10 @@ module _ (listing : List ℕ) (base : ℕ) (ok : Accepted listing base) where
       ahead_within = rw so_far.like.place (on_within listing base p so_far.like.on).inside
 
   -- ---- from a landing place
-  module _ (t : Table) (tells : Tells t listing base) (address : ℕ) (l : Landing) (found : Last)
-      (is : found ≡ last_to t address) (e : found ≡ At l) where
+  module _ (ls : List Landing) (known : Known listing base ls) (address : ℕ) (l : Landing) (found : Option Landing)
+      (is : found ≡ last_to ls address) (e : found ≡ Some l) where
     abbrev lands : Lands listing base l × (l.address ≤ address)
-    lands = last_lands listing base t tells address l (sym is ∙ e)
+    lands = last_lands listing base ls (known_tells listing base ls known) address l (sym is ∙ e)
 
     abbrev landed : Point
     landed = lands.0.point
@@ -138,7 +143,7 @@ module _ (listing : List ℕ) (base : ℕ) (ok : Accepted listing base) where
     pub ahead_landing : Ahead listing base address made
     ahead_landing = record { like = like_made; past = λ h. absurd (omega (arith, lands.1)) }
 
-    pub seat_landing : l.address ≡ address → seat (In l.place) nothing ≡ seat_at listing base address
+    pub seat_landing : l.address ≡ address → seat (Some l.place) nothing ≡ seat_at listing base address
     seat_landing h =
         rw (lands.0.place, waits) at (seat_standing landed lands.0.on steps.1 ∙ ap (seat_at listing base) (lands.0.at ∙ h))
 
@@ -160,7 +165,7 @@ module _ (listing : List ℕ) (base : ℕ) (ok : Accepted listing base) where
         rw (s.place_is, a, s.due_is) (parted_aside listing s.point unfilled)
 
     pub seat_next : (w : Way) (next : Point) → Passed listing left w next → (to : ℕ) → next.address.0 ≡ to → next.parted ≡ false
-        → seat (In next.place) next.waiting ≡ seat_at listing base to
+        → seat (Some next.place) next.waiting ≡ seat_at listing base to
     seat_next w next g to a n =
         let e = sym met_left ∙ g.goes in
         let o = next_on listing base s.point standing_there.on g.what next e in

@@ -16,10 +16,7 @@ use Rattle.record.specs.declared.Record.{Record}
 use Rattle.flow.specs.Flow.{way, fills}
 use Rattle.kinds.specs.Kinds.{listing_length, record_of}
 use Rattle.reading.specs.declared.Place.{Place}
-use Rattle.reading.specs.declared.Read.{Read}
-use Rattle.reading.specs.declared.Read.TheVariants.{Is, Refused}
-use Rattle.reading.specs.declared.ReadAt.{ReadAt}
-use Rattle.reading.specs.declared.ReadAt.TheVariants.{Found, Nothing}
+use Rattle.std.specs.Prelude.{Option, Some, None}
 use Rattle.reading.specs.Reading.{part, read_one, found_at, read_at}
 use Rattle.reading.proofs.Places.{ahead}
 use Rattle.layout.specs.declared.Point.{Point}
@@ -51,7 +48,7 @@ pub record KindMet (listing : List ℕ) (p : Point) (r : Record) (next : ℕ) : 
   pub to : next ≡ p.place.0 + listing_length (byte listing p.place.0)
 
 -- the place after a record that was read
-read_to : (listing : List ℕ) (place : ℕ) (r : Record) (next : Place) → read_at listing place ≡ Found r next
+read_to : (listing : List ℕ) (place : ℕ) (r : Record) (next : Place) → read_at listing place ≡ Some (r, next)
     → next.0 ≡ place + listing_length (byte listing place)
 unfolding read_at found_at
 read_to listing place r next = go (leb (place + size) (length listing)) (read_one (part listing place))
@@ -59,10 +56,11 @@ read_to listing place r next = go (leb (place + size) (length listing)) (read_on
     size : ℕ
     size = listing_length (byte listing place)
 
-    go : (t : Bool) (x : Read) → ◌≡◌ {A = ReadAt} (if t then found_at x (place + size) else Nothing) (Found r next) → next.0 ≡ place + size
-    go true (Is x) e = cc
-    go true Refused e = let z : ◌≡◌ {A = ℕ} 0 1 = cc in absurd (omega arith)
-    go false x e = let z : ◌≡◌ {A = ℕ} 0 1 = cc in absurd (omega arith)
+    go : (t : Bool) (x : Option Record) → (if t then found_at x (place + size) else None) ≡ Some (r, next) → next.0 ≡ place + size
+    go true (Some x) e =
+        let pair : ◌≡◌ {A = Record × Place} (r, next) (x, record { 0 = place + size }) = cc in ap (λ (p : Record × Place). p.1.0) pair
+    go true None e = absurd (cc)
+    go false x e = absurd (cc)
 
 pub kind_met : (listing : List ℕ) (p n : Point) (r : Record) → meets listing p ≡ Onward r n → KindMet listing p r n.place.0
 unfolding kind_there

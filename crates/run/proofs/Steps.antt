@@ -9,7 +9,7 @@ use Rattle.waiting.specs.Waiting.{none, waiting_count}
 use Rattle.waiting.proofs.Good.{is_good}
 use Rattle.record.specs.declared.Record.{Record}
 use Rattle.flow.specs.Flow.{machine_length, after}
-use Rattle.reading.specs.declared.Read.TheVariants.{Is}
+use Rattle.std.specs.Prelude.{Some}
 use Rattle.reading.specs.Reading.{part, read_one}
 use Rattle.reading.proofs.Places.{ahead}
 use Rattle.judge.specs.Judge.{refusal}
@@ -59,7 +59,7 @@ module _ (h : Rehearsal) (ok : Accepted h.listing h.base) (s : State) (fit : Fit
   on = next_on h.listing h.base p stands.on r q stands.goes
 
   -- ---- the tests
-  pub read_here : read_one bytes ≡ Is r
+  pub read_here : read_one bytes ≡ Some r
   read_here = (ahead h.listing p.place.0 r q.place (onto h.listing p r q stands.goes).read).read
 
   pub unrefused_here : refusal r (waiting_count m.waiting) ≡ 0

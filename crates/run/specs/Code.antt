@@ -1,5 +1,5 @@
 -- For the code alone: where its machine is, and what its rounds keep of a run, where the definition keeps the records too.
-use Rattle.std.specs.Prelude.{ℕ, suc, ◌+◌, ◌<◌, Bool, true, ◌&&◌, ◌||◌, ◌≡◌, eqb, ltb, length, get_or}
+use Rattle.std.specs.Prelude.{ℕ, suc, ◌+◌, ◌<◌, Bool, true, ◌&&◌, ◌||◌, ◌≡◌, eqb, ltb, length, get_or, Option, Some, None, Result, Ok, Err}
 use mathlib.Core.List.{List, Memᴰ}
 use Rattle.std.specs.Bool.{if◌then◌else◌}
 use Rattle.waiting.specs.declared.Waiting.{Waiting}
@@ -10,19 +10,19 @@ use Rattle.setup.specs.declared.Setup.{Setup}
 use Rattle.setup.specs.Setup.{fits}
 use Rattle.layout.specs.declared.Point.{Point}
 use Rattle.layout.specs.Layout.{AtAddress, Stands, End, Stray, Met, meets, layout, filled, at_address}
-use Rattle.landing.specs.Code.{Table, Tells}
 use Rattle.listing.specs.Check.{checked}
 use Rattle.reading.specs.declared.Place.{Place}
 use Rattle.machine.specs.declared.Machine.{Machine}
 use Rattle.machine.specs.Machine.{PC, held, good}
+use Rattle.refusal.specs.declared.Refusal.{Refusal}
+use Rattle.refusal.specs.Refusal.{number}
 use Rattle.run.specs.declared.Sight.{Sight}
 use Rattle.run.specs.declared.Sight.TheVariants.{AtRecord, AtEnd, AtNone}
-use Rattle.run.specs.declared.Stored.{Stored}
-use Rattle.run.specs.declared.Stored.TheVariants.{In, None}
 use Rattle.run.specs.declared.seat.Seat.{Seat}
 use Rattle.run.specs.declared.race.Raced.{Raced}
 use Rattle.run.specs.declared.race.Stride.{Stride}
-use Rattle.lent.specs.Lent.{assembled, flags_in}
+use Rattle.flags.specs.declared.Flags.{Flags}
+use Rattle.lent.specs.Lent.{assembled}
 use Rattle.run.specs.Run.{Rehearsal, rehearsal, State, state, Course, faced, over, used_up, rounds}
 use Rattle.run.specs.Place.{place_in, walks_place, same_place, Journey, journey, Halting, halting}
 
@@ -33,7 +33,7 @@ due_at (Stands r p) = p.waiting
 due_at End = nothing
 due_at Stray = nothing
 
-abbrev pub seat : Stored → Waiting → Seat
+abbrev pub seat : Option Place → Waiting → Seat
 seat stored due = record { stored = stored; due = due }
 
 -- the seat at an address
@@ -46,7 +46,7 @@ seat_of h m = seat_at h.listing h.base (held m PC)
 
 -- the seat at a point
 unfoldable pub sat : Met → Point → Seat
-sat t p = if filled t then seat None nothing else seat (In p.place) p.waiting
+sat t p = if filled t then seat None nothing else seat (Some p.place) p.waiting
 
 -- a point that stands for one of the layout: whether a filler may stand at it is left open, as none does
 pub record Like (listing : List ℕ) (base : ℕ) (from : Point) : Type 0 where
@@ -70,18 +70,14 @@ pub record Seated (listing : List ℕ) (base address : ℕ) (place : Place) (due
   pub place_is : place ≡ point.place
   pub due_is : due ≡ point.waiting
 
--- the listing is accepted, and this is the table of its landing places
-abbrev pub Known : List ℕ → ℕ → Table → Type 0
-Known listing base t = ((checked listing base).number ≡ 0) × Tells t listing base
-
 -- ---- what a machine faces
 unfoldable pub sight : AtAddress → Sight
 sight (Stands r p) = AtRecord p.place
 sight End = AtEnd
 sight Stray = AtNone
 
-unfoldable pub seen_from : Stored → ℕ → Sight
-seen_from (In place) length = if eqb place.0 length then AtEnd else AtRecord place
+unfoldable pub seen_from : Option Place → ℕ → Sight
+seen_from (Some place) length = if eqb place.0 length then AtEnd else AtRecord place
 seen_from None length = AtNone
 
 -- with these conditions waiting
@@ -101,8 +97,8 @@ pub record Fit (h : Rehearsal) (s : State) : Type 0 where
   pub sixteen : length s.machine.registers ≡ 16
   pub memory_fits : fits h.setup s.memory ≡ true
 
-abbrev pub parts_of : List ℕ → List Bool → Waiting → List ℕ → State
-parts_of registers marks waiting memory = state (assembled registers (flags_in marks) waiting) memory
+abbrev pub parts_of : List ℕ → Flags → Waiting → List ℕ → State
+parts_of registers flags waiting memory = state (assembled registers flags waiting) memory
 
 -- the place of the record that is seen; the listing's length where there is none
 unfoldable pub spot : Sight → ℕ → ℕ
@@ -139,11 +135,11 @@ pub record At (h : Rehearsal) (m : Machine) (place kind : ℕ) : Type 0 where
   pub none : kind ≡ 0x17 → Nowhere (faced h m)
 
 -- rounds that may start at a place
-pub record Starts (registers : List ℕ) (marks : List Bool) (waiting : Waiting) (place : ℕ) (listing : List ℕ) (base : ℕ) (memory : List ℕ)
+pub record Starts (registers : List ℕ) (flags : Flags) (waiting : Waiting) (place : ℕ) (listing : List ℕ) (base : ℕ) (memory : List ℕ)
     (setup : Setup) : Type 0 where
-  pub fit : Fit (rehearsal listing base setup) (parts_of registers marks waiting memory)
+  pub fit : Fit (rehearsal listing base setup) (parts_of registers flags waiting memory)
   pub at : let h = rehearsal listing base setup in
-      place ≡ spot (sight (faced h (assembled registers (flags_in marks) waiting))) (length listing)
+      place ≡ spot (sight (faced h (assembled registers flags waiting))) (length listing)
 
 -- the outcome of a run from here on, where so many steps are done already
 unfoldable pub counted : Rehearsal → ℕ → Course → Halting
@@ -158,10 +154,10 @@ counted h count c =
     c.last.memory
 
 -- the record at a place, to be stepped
-pub record StandsAt (registers : List ℕ) (marks : List Bool) (waiting : Waiting) (place kind : ℕ) (listing : List ℕ) (base : ℕ)
+pub record StandsAt (registers : List ℕ) (flags : Flags) (waiting : Waiting) (place kind : ℕ) (listing : List ℕ) (base : ℕ)
     (memory : List ℕ) (setup : Setup) : Type 0 where
-  pub fit : Fit (rehearsal listing base setup) (parts_of registers marks waiting memory)
-  pub at : At (rehearsal listing base setup) (assembled registers (flags_in marks) waiting) place kind
+  pub fit : Fit (rehearsal listing base setup) (parts_of registers flags waiting memory)
+  pub at : At (rehearsal listing base setup) (assembled registers flags waiting) place kind
   pub stepped : kind ≡ 0x17 → ⊥
 
 -- after a step that was done: the run goes on from there
@@ -170,25 +166,26 @@ pub record LedOn (h : Rehearsal) (before after : State) (place kind : ℕ) : Typ
   pub at : At h after.machine place kind
   pub on : (count left : ℕ) → counted h count (rounds (suc left) h before) ≡ counted h (count + 1) (rounds left h after)
 
--- the step of the record at a place: refused, and all is as it was; or done
-pub record SteppedSo (h : Rehearsal) (before : State) (place : ℕ) (r : Stride) (after : State) : Type 0 where
-  pub refused : (r.number ≡ 0 → ⊥) → (left : ℕ) → rounds (suc left) h before ≡ over r.number place after
-  pub done : r.number ≡ 0 → LedOn h before after r.place r.kind
+-- the step of the record at a place: done, and the run goes on; or refused, and all is as it was
+abbrev pub SteppedSo : Rehearsal → State → ℕ → Result Stride Refusal → List ℕ → Flags → List ℕ → Type 0
+SteppedSo h before place (Ok r) registers flags memory = LedOn h before (parts_of registers flags r.waiting memory) r.place r.kind
+SteppedSo h before place (Err refusal) registers flags memory =
+    (left : ℕ) → rounds (suc left) h before ≡ over (number refusal) place (parts_of registers flags before.machine.waiting memory)
 
-abbrev pub Strode : Stride → List ℕ → List Bool → List ℕ → List ℕ → List Bool → Waiting → ℕ → List ℕ → List ℕ → ℕ → Setup → Type 0
-Strode r after marks memory before were waiting place bytes listing base setup =
-    SteppedSo (rehearsal listing base setup) (parts_of before were waiting bytes) place r (parts_of after marks r.waiting memory)
+abbrev pub Strode : Result Stride Refusal → List ℕ → Flags → List ℕ → List ℕ → Flags → Waiting → ℕ → List ℕ → List ℕ → ℕ → Setup → Type 0
+Strode r after flags memory before were waiting place bytes listing base setup =
+    SteppedSo (rehearsal listing base setup) (parts_of before were waiting bytes) place r after flags memory
 
 -- rounds that stopped: a step was refused; or there is none, or no budget for it
-abbrev pub stopped_at : Rehearsal → Raced → State → Course
-stopped_at h r s =
-    if eqb r.number 0 then over (used_up (faced h s.machine)) 0 s else over r.number r.place s
+abbrev pub stopped_by : Option Refusal → Rehearsal → ℕ → State → Course
+stopped_by (Some refusal) h place s = over (number refusal) place s
+stopped_by None h place s = over (used_up (faced h s.machine)) 0 s
 
 -- where they stopped is where the run would have ended
-abbrev pub RacedTo : Raced → List ℕ → List Bool → List ℕ → List ℕ → List Bool → Waiting → List ℕ → List ℕ → ℕ → Setup → ℕ → Type 0
-RacedTo r after marks memory before were start bytes listing base setup budget =
+abbrev pub RacedTo : Raced → List ℕ → Flags → List ℕ → List ℕ → Flags → Waiting → List ℕ → List ℕ → ℕ → Setup → ℕ → Type 0
+RacedTo r after flags memory before were start bytes listing base setup budget =
     let h = rehearsal listing base setup in
-    counted h r.count (stopped_at h r (parts_of after marks r.waiting memory))
+    counted h r.count (stopped_by r.refused h r.place (parts_of after flags r.waiting memory))
     ≡ counted h 0 (rounds budget h (parts_of before were start bytes))
 
 -- ---- a run
@@ -197,11 +194,11 @@ abbrev pub arrived : Rehearsal → Course → Journey
 arrived h c = journey c (walks_place h c.last.machine)
 
 -- anew, or from a stored place that has to agree
-abbrev pub set_out : Bool → ℕ → Rehearsal → State → Stored → Journey
+abbrev pub set_out : Bool → ℕ → Rehearsal → State → Option Place → Journey
 set_out anew budget h s stored =
     if anew || same_place stored (walks_place h s.machine) then arrived h (rounds budget h s) else journey (over 1 0 s) stored
 
-unfoldable pub proceeded : Bool → ℕ → Rehearsal → State → Stored → Journey
+unfoldable pub proceeded : Bool → ℕ → Rehearsal → State → Option Place → Journey
 proceeded anew budget h s stored =
     let c = checked h.listing h.base in
     if good s.machine && fits h.setup s.memory

@@ -9,12 +9,11 @@ use Rattle.setup.specs.declared.Setup.{Setup}
 use Rattle.setup.specs.Setup.{fits}
 use Rattle.layout.specs.declared.Point.{Point}
 use Rattle.layout.specs.Layout.{AtAddress, Stands, End, Stray, at_address}
-use Rattle.listing.specs.declared.Checked.{Checked}
-use Rattle.listing.specs.Check.{checked}
+use Rattle.listing.specs.Check.{Checked, checked}
 use Rattle.machine.specs.declared.Machine.{Machine}
 use Rattle.machine.specs.Machine.{PC, held, good, Outcome}
 use Rattle.machine.specs.Step.{stepped}
-use Rattle.run.specs.declared.Ran.{Ran}
+use Rattle.reading.specs.declared.Place.{Place}
 
 -- what is fixed for a run
 pub record Rehearsal : Type 0 where
@@ -107,6 +106,13 @@ run_of budget h s =
     if good s.machine && fits h.setup s.memory
     then unless_refused (checked h.listing h.base) s (rounds budget h s)
     else over 1 0 s
+
+-- how a run ended: its number and place, the count of the steps done, and the machine after them
+pub record Ran : Type 0 where
+  pub number : ℕ
+  pub place : Place
+  pub count : ℕ
+  pub machine : Machine
 
 -- the outcome of a run: its answer, and memory after it
 pub record Ending : Type 0 where

@@ -2,26 +2,26 @@
 // that was good stays so.
 
 ghost use Rattle.std.specs.Prelude.{◌≡◌};
-ghost use Rattle.landing.specs.Code.{table};
-ghost use Rattle.run.specs.Code.{Known, Starts, RacedTo, StandsAt, Strode, kind_there, followed_to};
+ghost use Rattle.run.specs.Code.{Starts, RacedTo, StandsAt, Strode, kind_there, followed_to};
 
-use crate::seat;
+use crate::chart::Chart;
+use flags::Flags;
+use refusal::Refusal;
 use setup::Setup;
 use waiting::Waiting;
 
-// Where the rounds stopped: the number of a refused step, or 0; the place of the record there; the steps done; what waits.
+// Where the rounds stopped: why a step was refused, if one was; the place of the record there; the steps done; what waits.
 #[derive(Clone, Copy)]
 pub struct Raced {
-    pub number: u32,
+    pub refused: Option<Refusal>,
     pub place: usize,
     pub count: u32,
     pub waiting: Waiting,
 }
 
-// A round: the number of a refused step, or 0; then the place after it, the kind there, and what waits.
+// A step that was done: the place after it, the kind there, and what waits.
 #[derive(Clone, Copy)]
 pub struct Stride {
-    pub number: u32,
     pub place: usize,
     pub kind: u8,
     pub waiting: Waiting,
@@ -30,56 +30,49 @@ pub struct Stride {
 // From a place on, to a step that is refused, to where no record is, or to the end of the budget.
 pub fn race(
     registers: &mut [u32; 16],
-    marks: &mut [bool; 5],
+    flags: &mut Flags,
     start: Waiting,
     from: usize,
-    listing: &[u8],
-    base: u32,
-    addresses: &[u32],
-    places: &[u32],
-    entries: usize,
+    chart: &Chart,
     memory: &mut [u8],
     setup: Setup,
     budget: u32,
 ) -> Raced
-    requires { Known listing.now base (table addresses.now places.now entries) × Starts registers.old marks.old start from listing.now base memory.old setup }
-    ensures { RacedTo result registers.new marks.new memory.new registers.old marks.old start memory.old listing.now base setup budget }
+    requires { Starts registers.old flags.old start from chart.now.listing.now chart.now.base memory.old setup }
+    ensures { RacedTo result registers.new flags.new memory.new registers.old flags.old start memory.old chart.now.listing.now chart.now.base setup budget }
 {
-    let mut count = 0;
     let mut waiting = start;
     let mut place = from;
-    let mut kind = kind_at(listing, from);
-    while count < budget {
+    let mut kind = kind_at(chart.listing, from);
+    for count in 0..budget {
         if kind == 0x17 {
             return Raced {
-                number: 0,
+                refused: None,
                 place,
                 count,
                 waiting,
             };
         }
-        let more = count + 1;
-        let made = take(
-            registers, marks, waiting, place, kind, listing, base, addresses, places, entries,
-            memory, setup,
-        );
-        waiting = made.waiting;
-        if 0 < made.number {
-            return Raced {
-                number: made.number,
-                place,
-                count,
-                waiting,
-            };
+        match take(registers, flags, waiting, place, kind, chart, memory, setup) {
+            Ok(made) => {
+                waiting = made.waiting;
+                place = made.place;
+                kind = made.kind;
+            }
+            Err(refusal) => {
+                return Raced {
+                    refused: Some(refusal),
+                    place,
+                    count,
+                    waiting,
+                };
+            }
         }
-        place = made.place;
-        kind = made.kind;
-        count = more;
     }
     Raced {
-        number: 0,
+        refused: None,
         place,
-        count,
+        count: budget,
         waiting,
     }
 }
@@ -87,46 +80,32 @@ pub fn race(
 // The step of the record at a place.
 fn take(
     registers: &mut [u32; 16],
-    marks: &mut [bool; 5],
+    flags: &mut Flags,
     waiting: Waiting,
     place: usize,
     kind: u8,
-    listing: &[u8],
-    base: u32,
-    addresses: &[u32],
-    places: &[u32],
-    entries: usize,
+    chart: &Chart,
     memory: &mut [u8],
     setup: Setup,
-) -> Stride
-    requires { Known listing.now base (table addresses.now places.now entries) × StandsAt registers.old marks.old waiting place kind listing.now base memory.old setup }
-    ensures { Strode result registers.new marks.new memory.new registers.old marks.old waiting place memory.old listing.now base setup }
+) -> Result<Stride, Refusal>
+    requires { StandsAt registers.old flags.old waiting place kind chart.now.listing.now chart.now.base memory.old setup }
+    ensures { Strode result registers.new flags.new memory.new registers.old flags.old waiting place memory.old chart.now.listing.now chart.now.base setup }
 {
     let next = place + kinds::listing_length_of(kind) as usize;
-    let r = &listing[place..next];
+    let r = &chart.listing[place..next];
     let ahead = pace::ahead_of(registers, r);
-    let number = pace::obey(registers, marks, waiting, ahead, r, memory, setup);
-    if 0 < number {
-        return Stride {
-            number,
-            place,
-            kind,
-            waiting,
-        };
-    }
+    pace::obey(registers, flags, waiting, ahead, r, memory, setup)?;
     let after = pace::waiting_after(waiting, r);
-    let to = follow(
-        registers, after, ahead, next, listing, base, addresses, places, entries,
-    );
-    Stride {
-        number: 0,
+    let to = follow(registers, after, ahead, next, chart);
+    Ok(Stride {
         place: to,
-        kind: kind_at(listing, to),
+        kind: kind_at(chart.listing, to),
         waiting: after,
-    }
+    })
 }
 
-// The kind at a place; that of a filler where there is none to step.
+// The kind at a place, by its byte (`kinds::record_from` says why); that of a filler where there is none to step.
+#[tactic(auto, unfolding(crate::specs::Code::kind_there))]
 fn kind_at(listing: &[u8], place: usize) -> u8
     ensures { result ≡ kind_there listing.now place }
 {
@@ -137,31 +116,14 @@ fn kind_at(listing: &[u8], place: usize) -> u8
 }
 
 // The place after a step: that of the next record, or what is looked up.
-fn follow(
-    registers: &[u32; 16],
-    waiting: Waiting,
-    ahead: u32,
-    next: usize,
-    listing: &[u8],
-    base: u32,
-    addresses: &[u32],
-    places: &[u32],
-    entries: usize,
-) -> usize
-    requires { Known listing.now base (table addresses.now places.now entries) }
-    ensures { result ≡ followed_to registers.now waiting ahead next listing.now base }
+#[tactic(auto, unfolding(crate::specs::Code::followed_to))]
+fn follow(registers: &[u32; 16], waiting: Waiting, ahead: u32, next: usize, chart: &Chart) -> usize
+    ensures { result ≡ followed_to registers.now waiting ahead next chart.now.listing.now chart.now.base }
 {
     let to = registers[15];
     if to == ahead {
         return next;
     }
-    let length = listing.len();
-    crate::spot_of(
-        crate::face(
-            seat::find(listing, base, addresses, places, entries, to),
-            waiting,
-            length,
-        ),
-        length,
-    )
+    let length = chart.listing.len();
+    crate::spot_of(crate::face(chart.find(to), waiting, length), length)
 }

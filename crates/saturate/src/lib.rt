@@ -5,7 +5,8 @@
 ghost use Rattle.std.specs.Prelude.{◌≡◌, ◌-◌, ◌^◌, min, pos};
 ghost use Rattle.saturate.specs.Saturate.{SSAT, USAT, saturated_to};
 
-#[derive(Clone, Copy)]
+// The value counts whether it was saturated or not, so this is no Result.
+#[derive(Clone, Copy, Debug, PartialEq, Eq)]
 pub struct Saturated {
     pub value: i32,
     pub saturated: bool,
@@ -14,10 +15,11 @@ pub struct Saturated {
 pub fn ssat(bits: u32, number: i32) -> Saturated
     ensures { result ≡ SSAT bits number }
 {
-    let most = if bits == 0 { 0 } else { most_of(bits - 1) };
+    let most = most_of(bits.saturating_sub(1));
     saturate(-1 - most, most, number)
 }
 
+#[tactic(auto, unfolding(crate::specs::Saturate::USAT))]
 pub fn usat(bits: u32, number: i32) -> Saturated
     ensures { result ≡ USAT bits number }
 {
@@ -33,6 +35,7 @@ pub fn saturate(least: i32, most: i32, number: i32) -> Saturated
     }
 }
 
+// `clamp` asks that least is no more than most, which `saturate` does not.
 fn nearest(least: i32, most: i32, number: i32) -> i32
     ensures { result ≡ (saturated_to least most number).value }
 {
@@ -50,7 +53,7 @@ fn most_of(bits: u32) -> i32
     ensures { result ≡ pos (min (2 ^ bits) (2 ^ 31) - 1) }
 {
     if bits >= 31 {
-        return 0x7fff_ffff;
+        return i32::MAX;
     }
     word::ones(bits) as i32
 }

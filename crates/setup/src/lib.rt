@@ -5,7 +5,7 @@
 ghost use Rattle.std.specs.Prelude.{◌≡◌};
 ghost use Rattle.setup.specs.Setup.{at_base, fits};
 
-#[derive(Clone, Copy)]
+#[derive(Clone, Copy, Debug, PartialEq, Eq)]
 pub struct Setup {
     // the address of memory's first byte
     pub base: u32,
@@ -21,6 +21,7 @@ impl Setup {
 }
 
 // Is memory within its limit and not past 2^32?
+#[tactic(auto, unfolding(crate::specs::Setup::fits))]
 pub fn is_fit(memory: &[u8], setup: Setup) -> bool
     ensures { result ≡ fits setup memory.now }
 {

@@ -5,7 +5,8 @@
 ghost use Rattle.std.specs.Prelude.{◌≡◌, ◌%◌};
 ghost use Rattle.shift.specs.Shift.{LSL, LSR, ASR, ROR, RRX, rotated};
 
-#[derive(Clone, Copy)]
+// The carry counts whichever it is: it does not say that the value is missing, so this is no Option.
+#[derive(Clone, Copy, Debug, PartialEq, Eq)]
 pub struct Shifted {
     pub value: u32,
     pub carry: bool,
@@ -71,16 +72,14 @@ pub fn asr(x: u32, amount: u32, carry: bool) -> Shifted
 pub fn rotate_right(x: u32, amount: u32) -> u32
     ensures { result ≡ rotated x (amount % 32) }
 {
-    let turn = amount & 31;
-    let wide = (x as u64) << (32 - turn);
-    (wide & 0xffff_ffff) as u32 | (x >> turn)
+    x.rotate_right(amount)
 }
 
+#[tactic(auto, unfolding(crate::specs::Shift::ROR, crate::specs::Shift::rotated))]
 pub fn ror(x: u32, amount: u32, carry: bool) -> Shifted
     ensures { result ≡ ROR x amount carry }
 {
-    let none = amount == 0;
-    if none {
+    if amount == 0 {
         return Shifted { value: x, carry };
     }
     let value = rotate_right(x, amount);
@@ -90,6 +89,7 @@ pub fn ror(x: u32, amount: u32, carry: bool) -> Shifted
     }
 }
 
+#[tactic(auto, unfolding(crate::specs::Shift::RRX))]
 pub fn rrx(x: u32, carry: bool) -> Shifted
     ensures { result ≡ RRX x carry }
 {

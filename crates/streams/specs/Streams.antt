@@ -1,9 +1,8 @@
 -- What the programs take from their input, and what they say on standard error.
-use Rattle.std.specs.Prelude.{ℕ, List, ◌++◌, take, drop, false}
+use Rattle.std.specs.Prelude.{ℕ, List, ◌++◌, take, drop, false, Option, Some, None}
 use Rattle.std.specs.Fmt.{digits}
 use Rattle.little.specs.Little.{number_at}
-use Rattle.run.specs.declared.Stored.{Stored}
-use Rattle.run.specs.declared.Stored.TheVariants.{In, None}
+use Rattle.reading.specs.declared.Place.{Place}
 use Rattle.text.specs.Text.{letters}
 use Rattle.rehearsal.specs.Program.{place_of, stored_of}
 
@@ -20,8 +19,8 @@ abbrev pub listing_behind : List ℕ → List ℕ
 listing_behind input = listing_in (drop 4 input)
 
 -- `place 0`, `stored 9` or `stored none`, each a line
-unfoldable pub places_text : ℕ → Stored → List ℕ
-places_text place (In next) = letters "place " ++ digits 10 false place ++ letters "\nstored " ++ digits 10 false next.0 ++ letters "\n"
+unfoldable pub places_text : ℕ → Option Place → List ℕ
+places_text place (Some next) = letters "place " ++ digits 10 false place ++ letters "\nstored " ++ digits 10 false next.0 ++ letters "\n"
 places_text place None = letters "place " ++ digits 10 false place ++ letters "\nstored none\n"
 
 -- those of a rehearsal

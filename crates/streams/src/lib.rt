@@ -8,7 +8,6 @@ ghost use Rattle.rehearsal.specs.Program.{program_budget, text_of};
 ghost use Rattle.streams.specs.Streams.{listing_in, budget_in, listing_behind, places_text, places_of};
 
 use reading::Place;
-use run::Stored;
 use std::io;
 use std::io::{Read, Write};
 
@@ -69,6 +68,7 @@ fn rehearse_within<R: Read, W: Write, E: Write>(
 }
 
 // Reads until the slice is full, the input ends or a read fails.
+// The library's `read_exact` fails where the input ends, and its `read_to_end` wants a heap, so the bytes are counted here.
 fn read_full<R: Read>(from: &mut R, space: &mut [u8]) -> Filled
     ensures within { result.count ≤ length space.new }
     ensures taken { Consumes (R.remaining from.old) (R.remaining from.new) (take result.count space.new) }
@@ -94,15 +94,15 @@ fn read_full<R: Read>(from: &mut R, space: &mut [u8]) -> Filled
     }
 }
 
-fn say<E: Write>(places: &mut E, place: Place, stored: Stored) -> io::Result<()>
+fn say<E: Write>(places: &mut E, place: Place, stored: Option<Place>) -> io::Result<()>
     ensures { OnOk result (Appends (E.contents places.old) (E.contents places.new) (places_text place.0 stored)) }
 {
     let place = place.0;
     match stored {
-        Stored::In(next) => {
+        Some(next) => {
             let next = next.0;
             write!(places, "place {place}\nstored {next}\n")
         }
-        Stored::None => write!(places, "place {place}\nstored none\n"),
+        None => write!(places, "place {place}\nstored none\n"),
     }
 }

@@ -1,10 +1,11 @@
 -- Overflow by the signs is overflow by the range; a difference is a sum.
-use Prim.Native.Nat.{ℕ, suc, ◌+◌, ◌-◌, ◌/◌, ◌%◌, ◌^◌, ◌≤◌, ◌<◌}
-use mathlib.Core.Path.{◌≡◌, refl}
+use Prim.Native.Nat.{ℕ, suc, ◌+◌, ◌-◌, ◌*◌, ◌/◌, ◌%◌, ◌^◌, ◌≤◌, ◌<◌}
+use mathlib.Core.Path.{◌≡◌, refl, sym}
 use mathlib.Core.Bool.{Bool, true, false, not, ◌&&◌, beq}
 use native.Mathlib.Omega.{arith}
 use borrow.Author.Tests.{lt-ltb, le-ltb, lt-leb, le-leb}
-use lib.Dec.{eqb}
+use lib.Dec.{eqb, leb}
+use mir.Val.{bool_byte}
 use lib.IntN.{ℤ, pos, negsuc, neg_ℤ, ◌+ℤ◌, ◌-ℤ◌, +ℤ_comm, +ℤ_assoc}
 use Rattle.word.specs.Word.{signed, inverted, negative, one_if}
 use Rattle.word.proofs.Cases.{cases, le_or_gt, leb_both}
@@ -42,6 +43,16 @@ large_in_range x y i f f' g g' h =
     (cases (le_or_gt (2 ^ 31) v)
     (λ l. rw (le-leb (2 ^ 31) v l, le-leb (d - suc i) (2 ^ 31 - 1) (omega arith)))
     (λ l. rw (lt-leb (2 ^ 31) v l, lt-leb (d - suc i) (2 ^ 31 - 1) (omega arith))))
+
+-- what is left of a sum in a word, and the carry out of it
+pub carried : (value sum : ℕ) (out : Bool) → value < 2 ^ 32 → value + bool_byte out * 2 ^ 32 ≡ sum
+    → (value ≡ sum % 2 ^ 32) × (out ≡ leb (2 ^ 32) sum)
+carried value sum true h e = (omega arith, sym (le-leb (2 ^ 32) sum (omega arith)))
+carried value sum false h e = (omega arith, sym (lt-leb (2 ^ 32) sum (omega arith)))
+
+pub as_number : (b : Bool) → bool_byte b ≡ one_if b
+as_number true = refl
+as_number false = refl
 
 -- overflow as the code tests it, by bit 31 of the two numbers and of their sum
 pub overflow_by_signs : (x y i : ℕ) → x < 2 ^ 32 → y < 2 ^ 32 → i ≤ 1

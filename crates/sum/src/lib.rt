@@ -5,7 +5,8 @@
 ghost use Rattle.std.specs.Prelude.{◌≡◌};
 ghost use Rattle.sum.specs.Sum.{add_with_carry, subtract_with_carry};
 
-#[derive(Clone, Copy)]
+// The carry and the overflow count whichever they are: neither says that the value is missing, so this is no Option.
+#[derive(Clone, Copy, Debug, PartialEq, Eq)]
 pub struct Sum {
     pub value: u32,
     pub carry: bool,
@@ -15,14 +16,13 @@ pub struct Sum {
 pub fn add_with_carry(x: u32, y: u32, carry: bool) -> Sum
     ensures { result ≡ add_with_carry x y carry }
 {
-    let sum = x as u64 + y as u64 + word::one_if(carry) as u64;
-    let value = (sum & 0xffff_ffff) as u32;
+    let (value, carry) = x.carrying_add(y, carry);
     let minus_x = x >> 31 == 1;
     let minus_y = y >> 31 == 1;
     let minus_value = value >> 31 == 1;
     Sum {
         value,
-        carry: sum >> 32 == 1,
+        carry,
         overflow: (minus_x == minus_y) & (minus_x != minus_value),
     }
 }

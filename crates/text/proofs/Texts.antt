@@ -1,13 +1,15 @@
 -- What a text holds after bytes were added to it, and how long the lines are.
 use Prim.Native.Nat.{ℕ, zero, suc, ◌+◌, ◌-◌, ◌/◌, ◌%◌, ◌≤◌, ◌<◌}
-use mathlib.Core.Path.{◌≡◌, refl, ◌∙◌, ap}
+use mathlib.Core.Path.{◌≡◌, refl, ◌∙◌}
 use mathlib.Core.List.{List, [], ◌∷◌, ◌++◌, append_assoc, append-nil}
-use native.Mathlib.Nat.{add-zero}
 use native.Mathlib.Numerals.{add-one}
 use native.Mathlib.Omega.{arith}
 use borrow.Author.Tests.{lt-ltb, le-ltb}
-use lib.ListN.{length, take, drop, get_or, set, replicate, length-set, length-append, length-replicate}
-use lib.Seq.{get_or-set_same, drop-set-lt, drop-cons, take-suc-set, append_snoc}
+use lib.ListN.{length, take, drop, get_or, set, length-set, length-append}
+use lib.Seq.{get_or-set_same, drop-set-lt, drop-cons}
+use Rattle.std.proofs.Math.Seq.{take-append-add}
+use Rattle.std.proofs.Common.{rules}
+use Rattle.std.proofs.lemmas.List.{take_all, take-append-le, length-take-le}
 use Rattle.word.proofs.Cases.{cases, le_or_gt}
 use Rattle.flags.specs.declared.Flags.{Flags}
 use Rattle.text.specs.Text.{
@@ -22,18 +24,30 @@ use Rattle.text.specs.Text.{
   flags_line,
   end_text,
 }
-use Rattle.text.specs.declared.Text.{Text}
-use Rattle.text.specs.Code.{blank, pushed, appended}
+use Rattle.text.specs.Code.{appended}
 
-pub added_next : (t : Text) (xs : List ℕ) (i : ℕ) → i < length xs
-    → appended t (drop i xs) ≡ appended (pushed t (get_or xs i 0)) (drop (i + 1) xs)
+pub added_none : (t : List ℕ) → t ≡ appended t []
 unfolding appended
-added_next t xs i h = rw (add-one, drop-cons xs i 0)
+added_none t = search rules
 
-pub added_append : (t : Text) (xs ys : List ℕ) → appended t (xs ++ ys) ≡ appended (appended t xs) ys
+pub added_append : (t xs ys : List ℕ) → appended (appended t xs) ys ≡ appended t (xs ++ ys)
 unfolding appended
-added_append t [] ys = refl
-added_append t (x ∷ xs) ys = added_append (pushed t x) xs ys
+added_append t xs ys =
+    let room = 256 - length t in
+    cases (le_or_gt room (length xs))
+    (λ h.
+    let none : 256 - length (t ++ take room xs) ≡ 0 =
+    rw (length-append, length-take-le room xs h) (omega arith) in
+    rw (none, append-nil, take-append-le room xs ys h))
+    (λ h.
+    let left : 256 - length (t ++ xs) ≡ room - length xs = rw length-append (omega arith) in
+    let seam : length xs + (room - length xs) ≡ room = omega arith in
+    rw (take_all room xs (omega arith), left, append_assoc, ← take-append-add xs ys (room - length xs), seam))
+
+-- a text that fits whole
+pub whole : (xs : List ℕ) → length xs ≤ 256 → appended [] xs ≡ xs
+unfolding appended
+whole xs h = take_all 256 xs h
 
 -- a byte put before the last ones
 drop_set : (xs : List ℕ) (i x : ℕ) → i < length xs → drop i (set xs i x) ≡ x ∷ drop (suc i) xs
@@ -63,43 +77,6 @@ module _ (n : ℕ) (behind : List ℕ) where
       let e : suc at - 1 ≡ at = omega arith in
       rw (e, le-ltb n 10 large, drop_set behind at (digit (n % 10)) (omega arith), append_assoc)
 
--- a text with a byte more
-abbrev longer : Text → ℕ → Text
-longer t x = record { bytes = set t.bytes t.length x; length = t.length + 1 }
-
-added_free : (t : Text) (x : ℕ) (xs : List ℕ) → t.length < 256 → appended t (x ∷ xs) ≡ appended (longer t x) xs
-unfolding appended pushed
-added_free t x xs free =
-    let e : pushed t x ≡ longer t x = rw (lt-ltb t.length 256 free) in ap (λ (more : Text). appended more xs) e
-
--- while there is room, what is added stands behind what was there
-held : (xs : List ℕ) (t : Text) → length t.bytes ≡ 256 → t.length + length xs ≤ 256
-    → ((appended t xs).length ≡ t.length + length xs)
-    × (take (t.length + length xs) (appended t xs).bytes ≡ take t.length t.bytes ++ xs)
-unfolding appended
-held [] t e h = simp (add-zero, append-nil) (refl, refl)
-held (x ∷ xs) t e h =
-    let free : t.length < 256 = omega arith in
-    let rest = held xs (longer t x) (length-set t.bytes t.length x ∙ e) (omega arith) in
-    let n : t.length + 1 + length xs ≡ t.length + suc (length xs) = omega arith in
-    let seam : take (t.length + 1) (set t.bytes t.length x) ++ xs ≡ take t.length t.bytes ++ x ∷ xs =
-    rw (add-one, take-suc-set t.bytes t.length x (omega arith))
-    (append_snoc (take t.length t.bytes) x xs) in
-    rw (added_free t x xs free, ← n) (rest.0, rest.1 ∙ seam)
-
--- the bytes in use are a text
-pub record Whole (t : Text) (text : List ℕ) : Type 0 where
-  pub count : t.length ≡ length text
-  pub front : take (length text) t.bytes ≡ text
-
-pub whole : (xs : List ℕ) → length xs ≤ 256 → Whole (appended blank xs) xs
-unfolding blank
-whole xs h =
-    let z : 0 + length xs ≡ length xs = omega arith in
-    let start : Text = record { bytes = replicate 256 0; length = 0 } in
-    let all = held xs start (length-replicate {A = ℕ} 256 0) (omega arith) in
-    record { count = all.0 ∙ z; front = rw z at all.1 }
-
 decimal_length : (most n : ℕ) → length (decimal_within most n) ≤ most
 unfolding decimal_within
 decimal_length zero n = omega arith
@@ -108,7 +85,7 @@ decimal_length (suc most) n =
     (λ h. rw (le-ltb n 10 h) (simp length-append (omega (arith, decimal_length most (n / 10)))))
     (λ h. rw (lt-ltb n 10 h) (omega arith))
 
-pub added_line : (t : Text) (i : ℕ) (registers : List ℕ)
+pub added_line : (t : List ℕ) (i : ℕ) (registers : List ℕ)
     → appended (appended t (register_lines i registers)) (register_line i (get_or registers i 0))
     ≡ appended t (register_lines (i + 1) registers)
 unfolding register_lines

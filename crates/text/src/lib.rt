@@ -2,65 +2,66 @@
 
 #![tactic(auto)]
 
-ghost use Rattle.std.specs.Prelude.{◌≡◌, ◌<◌};
+ghost use Rattle.std.specs.Prelude.{◌≡◌, ◌<◌, ◌≤◌, [], length};
 ghost use Rattle.text.specs.Text.{digit, decimal, hex};
-ghost use Rattle.text.specs.Code.{blank, pushed, appended};
+ghost use Rattle.text.specs.Code.{appended};
+
+use arrayvec::ArrayVec;
+use std::io::Write;
+use std::marker::Model;
 
 pub mod lines;
 
-// The longest text of a run, with two numbers of ten digits, has 242 bytes.
-#[derive(Clone, Copy)]
+// Its bytes, as a list in contracts. The longest text of a run, with two numbers of ten digits, has 242.
+#[derive(Drop)]
 pub struct Text {
-    pub bytes: [u8; 256],
-    pub length: usize,
+    bytes: ArrayVec<u8, 256>,
+}
+
+impl Model for Text {
+    ghost use Rattle.std.specs.Prelude.{ℕ, List};
+
+    ghost Value = { List ℕ };
+
+    ghost view = { λ t. t.bytes.items };
 }
 
 impl Text {
     pub fn new() -> Self
-        ensures { result ≡ blank }
+        ensures { result ≡ [] }
     {
         Text {
-            bytes: [0; 256],
-            length: 0,
+            bytes: ArrayVec::new(),
         }
     }
 
-    fn push(mut self, byte: u8) -> Self
-        ensures { result ≡ pushed self byte }
+    pub fn as_slice(&self) -> &[u8]
+        ensures value { result.now ≡ self.now }
+        ensures fits { length result.now ≤ 256 }
     {
-        let at = self.length;
-        if at < 256 {
-            self.bytes[at] = byte;
-            self.length = at + 1;
-        }
-        self
+        self.bytes.as_slice()
     }
 
-    pub fn say(self, words: &[u8]) -> Self
+    // What does not fit is cut off.
+    #[tactic(auto, unfolding(crate::specs::Code::appended))]
+    pub fn say(mut self, words: &[u8]) -> Self
         ensures { result ≡ appended self words.now }
     {
-        let mut text = self;
-        let mut i = 0;
-        while i < words.len() {
-            text = text.push(words[i]);
-            i += 1;
-        }
-        text
+        let _cut_off = self.bytes.write(words);
+        self
     }
 
     pub fn say_decimal(self, number: usize) -> Self
         ensures { result ≡ appended self (decimal number) }
     {
         let mut digits = [0u8; 10];
-        let mut at = 10;
         let mut rest = number;
-        while 0 < at {
-            at = at - 1;
+        for at in (0..10).rev() {
             digits[at] = digit_of(rest % 10);
             if rest < 10 {
                 return self.say(&digits[at..]);
             }
-            rest = rest / 10;
+            rest /= 10;
         }
         self.say(&digits)
     }

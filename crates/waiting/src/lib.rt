@@ -5,8 +5,8 @@
 ghost use Rattle.std.specs.Prelude.{◌≡◌};
 ghost use Rattle.waiting.specs.Waiting.{nothing, waiting_count, dropped, inverse, placed, block, same, good_place, good_waiting};
 
-// A place that holds no condition is 15.
-#[derive(Clone, Copy)]
+// A place that holds no condition is 15, as in the definitions `none` and `nothing`, on which the theorems of the layout stand: no Option.
+#[derive(Clone, Copy, PartialEq, Eq)]
 pub struct Waiting {
     pub first: u8,
     pub second: u8,
@@ -28,6 +28,7 @@ impl Waiting {
         }
     }
 
+    #[tactic(auto, unfolding(crate::specs::Waiting::waiting_count))]
     pub fn count(self) -> u32
         ensures { result ≡ waiting_count self }
     {
@@ -46,6 +47,7 @@ impl Waiting {
         4
     }
 
+    #[tactic(auto, unfolding(crate::specs::Waiting::dropped))]
     pub fn drop_first(self) -> Self
         ensures { result ≡ dropped self }
     {
@@ -57,16 +59,16 @@ impl Waiting {
         }
     }
 
+    // `==` by its name in the definitions, `same`, which the theorems on runs speak of.
+    #[tactic(auto, unfolding(crate::specs::Waiting::same))]
     pub fn is_same(self, other: Waiting) -> bool
         ensures { result ≡ same self other }
     {
-        (self.first == other.first)
-            & (self.second == other.second)
-            & (self.third == other.third)
-            & (self.fourth == other.fourth)
+        self == other
     }
 
     // Is it a list that a good machine may have?
+    #[tactic(auto, unfolding(crate::specs::Waiting::good_waiting))]
     pub fn is_good(self) -> bool
         ensures { result ≡ good_waiting self }
     {
@@ -77,6 +79,7 @@ impl Waiting {
     }
 
     // The block that an IT record opens.
+    #[tactic(auto, unfolding(crate::specs::Waiting::block))]
     pub fn block_of(condition: u8, count: u8, elses: u8) -> Self
         ensures { result ≡ block condition count elses }
     {
@@ -93,15 +96,16 @@ impl Waiting {
 fn place(within: bool, condition: u8, otherwise: bool) -> u8
     ensures { result ≡ placed within condition otherwise }
 {
-    if within {
-        if otherwise {
-            return inverse_of(condition);
-        }
-        return condition;
+    if !within {
+        Waiting::NONE
+    } else if otherwise {
+        inverse_of(condition)
+    } else {
+        condition
     }
-    Waiting::NONE
 }
 
+#[tactic(auto, unfolding(crate::specs::Waiting::inverse))]
 pub fn inverse_of(condition: u8) -> u8
     ensures { result ≡ inverse condition }
 {
@@ -112,5 +116,5 @@ fn is_good_place(first: u8, before: u8, condition: u8) -> bool
     ensures { result ≡ good_place first before condition }
 {
     let agrees = (condition <= 14) & ((condition == first) | (condition == inverse_of(first)));
-    (condition == Waiting::NONE) | !(before == Waiting::NONE) & agrees
+    (condition == Waiting::NONE) | (before != Waiting::NONE) & agrees
 }

@@ -13,4 +13,4 @@ returns c =
     let high = c.half_at.result in
     let low = c.half_at-2.result in
     let e : high * 2 ^ 16 % 2 ^ 32 ≡ high * 2 ^ 16 = omega arith in
-    rw e (joined_at 2 a.xs.now a.at low high c.half_at-2.ensures c.half_at.ensures (omega arith))
+    rw (c.from.ensures, c.from-2.ensures, e) (joined_at 2 a.xs.now a.at low high c.half_at-2.ensures c.half_at.ensures (omega arith))

@@ -1,7 +1,5 @@
-use Rattle.std.proofs.Common.{◌≡◌, ◌+◌, ◌%◌, ◌^◌, sym, ◌∙◌, arith}
-use Rattle.little.specs.Little.{little}
+use Rattle.std.proofs.Common.{sym, ◌∙◌, arith}
 use Rattle.little.proofs.Laws.{one_byte}
-use Rattle.memory.specs.Memory.{loaded}
 use Rattle.memory.proofs.Laws.{quick_loaded}
 use Rattle.memory.proofs.load_byte.Goals as goal
 
@@ -10,10 +8,3 @@ returns-then-at-memory c =
     let a = c.args in
     let at = c.offset_of-at.result in
     sym (quick_loaded 1 a.setup a.memory.now a.address at c.offset_of-at.ensures.1 (omega arith) ∙ one_byte a.memory.now at)
-
-pub returns : goal.returns
-unfolding loaded little
-returns c =
-    let a = c.args in
-    let e : (a.address + 0) % 2 ^ 32 ≡ a.address = omega arith in
-    rw (e, c.byte_of.ensures) (omega arith)

@@ -1,5 +1,4 @@
-use Rattle.std.proofs.Common.{◌≡◌, add-zero, div-one, arith}
-use Rattle.memory.specs.Memory.{further, stored}
+use Rattle.std.proofs.Common.{add-zero, div-one, arith}
 use Rattle.memory.proofs.Laws.{quick_stored, laid}
 use Rattle.memory.proofs.store_byte.Goals as goal
 
@@ -9,10 +8,3 @@ returns-then-at-size c =
     let a = c.args in
     let at = c.offset_of-at.result in
     rw (quick_stored 1 a.setup a.memory.now a.address at a.number c.offset_of-at.ensures.1 (omega arith), add-zero at, div-one a.number)
-
-pub returns : goal.returns
-unfolding stored
-returns c =
-    let a = c.args in
-    let here : further a.address 0 ≡ a.address = omega arith in
-    rw (here, div-one a.number) c.put.ensures

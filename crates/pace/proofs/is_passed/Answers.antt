@@ -16,7 +16,7 @@ bounds-r-3 c =
 pub returns-then-kind-eq17 : goal.returns-then-kind-eq17
 returns-then-kind-eq17 c =
     let a = c.args in
-    rw (c.if-first-eq-NONE.true, own_as a.r.now, c.if-kind-eq17.true) c.passes.ensures
+    rw (c.if-first-eq-NONE.true, own_as a.r.now, c.if-kind-eq17.true) c.pass.ensures
 
 pub returns-then-first-eq-NONE : goal.returns-then-first-eq-NONE
 unfolding passes
@@ -27,4 +27,4 @@ returns-then-first-eq-NONE c =
 pub returns : goal.returns
 returns c =
     let a = c.args in
-    rw (ne_eqb a.first 15 c.if-first-eq-NONE.false) c.passes-2.ensures
+    rw (ne_eqb a.first 15 c.if-first-eq-NONE.false) c.pass-2.ensures

@@ -2,7 +2,6 @@ use Rattle.std.proofs.Common.{◌≡◌, true, false, ◌||◌, eqb, arith, eqb-
 use borrow.Author.Tests.{eqb-false}
 use Rattle.word.proofs.Cases.{cases, either_true, neither}
 use Rattle.little.specs.Little.{byte}
-use Rattle.lent.specs.Lent.{flags_in}
 use Rattle.machine.specs.Machine.{done}
 use Rattle.pace.proofs.Lengths.{there}
 use Rattle.pace.proofs.Passing.{only_on}
@@ -23,52 +22,52 @@ access_one-requires c =
     (λ e. let f = eqb-true kind 14 e in record { least = omega (arith, f); most = omega (arith, f); sound = c.requires.sound })
 
 pub returns-then-accesses : goal.returns-then-accesses
-returns-then-accesses c = let a = c.args in c.access_one.ensures (flags_in a.marks.now)
+returns-then-accesses c = let a = c.args in c.access_one.ensures a.flags.now
 
 pub returns-in-4 : goal.returns-in-4
-returns-in-4 c = let a = c.args in c.add_a_number.ensures (flags_in a.marks.now) a.memory.now a.setup
+returns-in-4 c = let a = c.args in c.add_a_number.ensures a.flags.now a.memory.now a.setup
 
 pub returns-in-5 : goal.returns-in-5
-returns-in-5 c = let a = c.args in c.move_a_number.ensures (flags_in a.marks.now) a.memory.now a.setup
+returns-in-5 c = let a = c.args in c.move_a_number.ensures a.flags.now a.memory.now a.setup
 
 pub returns-in-6 : goal.returns-in-6
-returns-in-6 c = let a = c.args in c.operate_unary.ensures (flags_in a.marks.now) a.memory.now a.setup
+returns-in-6 c = let a = c.args in c.operate_unary.ensures a.flags.now a.memory.now a.setup
 
 pub returns-in-7 : goal.returns-in-7
 returns-in-7 c = let a = c.args in c.multiply.ensures a.memory.now a.setup
 
 pub returns-in-8 : goal.returns-in-8
-returns-in-8 c = let a = c.args in c.multiply_long.ensures (flags_in a.marks.now) a.memory.now a.setup
+returns-in-8 c = let a = c.args in c.multiply_long.ensures a.flags.now a.memory.now a.setup
 
 pub returns-in-9 : goal.returns-in-9
-returns-in-9 c = let a = c.args in c.divide.ensures (flags_in a.marks.now) a.memory.now a.setup
+returns-in-9 c = let a = c.args in c.divide.ensures a.flags.now a.memory.now a.setup
 
 pub returns-in-10 : goal.returns-in-10
 returns-in-10 c = let a = c.args in c.saturate.ensures a.memory.now a.setup
 
 pub returns-in-11 : goal.returns-in-11
-returns-in-11 c = let a = c.args in c.set_field.ensures (flags_in a.marks.now) a.memory.now a.setup
+returns-in-11 c = let a = c.args in c.set_field.ensures a.flags.now a.memory.now a.setup
 
 pub returns-in-12 : goal.returns-in-12
-returns-in-12 c = let a = c.args in c.extend.ensures (flags_in a.marks.now) a.memory.now a.setup
+returns-in-12 c = let a = c.args in c.extend.ensures a.flags.now a.memory.now a.setup
 
 pub returns-in-15 : goal.returns-in-15
-returns-in-15 c = let a = c.args in c.access_two.ensures (flags_in a.marks.now)
+returns-in-15 c = let a = c.args in c.access_two.ensures a.flags.now
 
 pub returns-in-16 : goal.returns-in-16
-returns-in-16 c = let a = c.args in c.access_many.ensures (flags_in a.marks.now)
+returns-in-16 c = let a = c.args in c.access_many.ensures a.flags.now
 
 pub returns-in-17 : goal.returns-in-17
-returns-in-17 c = let a = c.args in c.branch_off.ensures (flags_in a.marks.now) a.memory.now a.setup
+returns-in-17 c = let a = c.args in c.branch_off.ensures a.flags.now a.memory.now a.setup
 
 pub returns-in-18 : goal.returns-in-18
-returns-in-18 c = let a = c.args in c.branch_to_register.ensures (flags_in a.marks.now) a.memory.now a.setup
+returns-in-18 c = let a = c.args in c.branch_to_register.ensures a.flags.now a.memory.now a.setup
 
 pub returns-in-19 : goal.returns-in-19
-returns-in-19 c = let a = c.args in c.compare_and_branch.ensures (flags_in a.marks.now) a.memory.now a.setup
+returns-in-19 c = let a = c.args in c.compare_and_branch.ensures a.flags.now a.memory.now a.setup
 
 pub returns-in-22 : goal.returns-in-22
-returns-in-22 c = let a = c.args in c.branch_by_table.ensures (flags_in a.marks.now)
+returns-in-22 c = let a = c.args in c.branch_by_table.ensures a.flags.now
 
 pub returns-in_default : goal.returns-in_default
 unfolding done

@@ -1,11 +1,6 @@
-use borrow.Author.Tests.{eq-eqb, ne_eqb}
-use Rattle.quotient.specs.Quotient.{UDIV}
+use mathlib.Core.Path.{◌∙◌}
+use Rattle.quotient.proofs.Laws.{quotient_or_zero}
 use Rattle.quotient.proofs.udiv.Goals as goal
 
-pub returns-then-y-eq0 : goal.returns-then-y-eq0
-unfolding UDIV
-returns-then-y-eq0 c = rw (eq-eqb c.args.y 0 c.if-y-eq0.true)
-
-pub returns-else-y-eq0 : goal.returns-else-y-eq0
-unfolding UDIV
-returns-else-y-eq0 c = rw (ne_eqb c.args.y 0 c.if-y-eq0.false)
+pub returns : goal.returns
+returns c = c.unwrap_or.ensures ∙ quotient_or_zero c.checked_div.result c.args.x c.args.y c.checked_div.ensures

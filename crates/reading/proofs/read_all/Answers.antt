@@ -10,11 +10,11 @@ returns-then-whole c =
     let bytes = c.nine_of-bytes in
     let size = c.listing_length_of-size in
     let t = whole r bytes.result size.result c.is_named.result true bytes.ensures size.ensures c.is_named.ensures c.if-whole.true in
-    rw (t, c.judged.ensures, c.record_from.ensures, bytes.ensures, record_nine r)
+    rw (t, c.formed.ensures, c.record_from.ensures, bytes.ensures, record_nine r)
 
-pub returns : goal.returns
+pub returns-else-whole : goal.returns-else-whole
 unfolding read_one
-returns c =
+returns-else-whole c =
     let r = c.args.r.now in
     let bytes = c.nine_of-bytes in
     let size = c.listing_length_of-size in

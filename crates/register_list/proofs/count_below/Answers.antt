@@ -11,6 +11,7 @@ returns c =
     let a = c.args in
     rw (
       c.ones.ensures,
+      c.from.ensures,
       ones_mod a.register 32,
       and_mask a.list (min a.register 32),
       mod_min a.list a.register 32 (omega arith),

@@ -1,90 +1,63 @@
-use mathlib.Core.Bool.{true, false, ◌||◌}
-use mathlib.Core.Path.{◌≡◌}
+use mathlib.Core.Bool.{Bool}
+use mathlib.Core.Path.{◌≡◌, refl, ◌∙◌}
+use lib.Dec.{eqb}
+use native.Mathlib.Omega.{arith}
 use borrow.Author.Rules.{rules}
-use Rattle.landing.specs.Code.{table}
-use Rattle.listing.proofs.Accepted.{parts}
-use Rattle.listing.proofs.Branches.{table_tells}
+use Rattle.std.specs.Prelude.{Option, Some, None}
+use Rattle.std.specs.Option.{option_eq}
+use Rattle.std.proofs.Common.{length-take}
+use Rattle.reading.specs.declared.Place.{Place}
+use Rattle.landing.proofs.Entries.{all_listed, within_room}
+use Rattle.listing.proofs.Accepted.{parts, sound_low}
+use Rattle.machine.specs.declared.Machine.{Machine}
 use Rattle.machine.specs.Machine.{PC, held}
-use Rattle.run.specs.Run.{rehearsal}
+use Rattle.run.specs.declared.seat.Seat.{Seat}
+use Rattle.run.specs.Run.{Rehearsal, rehearsal}
 use Rattle.run.specs.Place.{walks_place, same_place, halt}
-use Rattle.run.specs.Code.{seat_at, Known}
+use Rattle.run.specs.Code.{seat_at}
 use Rattle.run.proofs.go.Goals as goal
-use Rattle.run.proofs.go.Goals.{After-find-at, After-is_same, After-list_all-entries, After-places-3-1, After-repeat-arg-1, After-slice_known-then-agrees-1, After-stop}
 
--- the table is that of the listing
-known : (c : After-list_all-entries) → let a = c.args in
-    Known a.listing.now a.base (table c.list_all-entries.new.addresses c.list_all-entries.new.places c.list_all-entries.result)
-known c =
-    let p = parts c.args.listing.now c.args.base c.requires.0 in
-    (c.requires.0, rw c.list_all-entries.ensures (table_tells c.args.listing.now c.args.base p.size p.first _ _ (search rules) (search rules)))
-
--- what was found is where the machine is
-seated : (c : After-find-at) → let a = c.args in c.find-at.result ≡ seat_at a.listing.now a.base (held a.running.machine PC)
-seated c = rw c.register-address.ensures at c.find-at.ensures
-
--- what was found is where the machine is
-seated_2 : (c : After-is_same) → let a = c.args in c.find-at.result ≡ seat_at a.listing.now a.base (held a.running.machine PC)
-seated_2 c = rw c.register-address.ensures at c.find-at.ensures
-
--- whether it agrees
-agrees : (c : After-is_same) → let a = c.args in
-    c.is_same.result ≡ same_place a.running.stored (walks_place (rehearsal a.listing.now a.base a.setup) a.running.machine)
+-- whether what was found agrees
+agreed : (h : Rehearsal) (m : Machine) (stored : Option Place) (at : Seat) (b : Bool) → at ≡ seat_at h.listing h.base (held m PC)
+    → b ≡ same_place stored at.stored → b ≡ same_place stored (walks_place h m)
 unfolding walks_place seat_at
-agrees c = rw (seated_2 c) at c.is_same.ensures
+agreed h m stored at b e f = rw e at f
 
--- the table is that of the listing
-known_2 : (c : After-places-3-1) → let a = c.args in
-    Known a.listing.now a.base (table c.list_all-entries.new.addresses c.list_all-entries.new.places c.list_all-entries.result)
-known_2 c =
-    let p = parts c.args.listing.now c.args.base c.requires.0 in
-    (c.requires.0, rw c.list_all-entries.ensures (table_tells c.args.listing.now c.args.base p.size p.first _ _ (search rules) (search rules)))
+equal : (eq : Place → Place → Bool) → ((p q : Place) → eq p q ≡ eqb p.0 q.0) → (a b : Option Place) → option_eq eq a b ≡ same_place a b
+unfolding same_place
+equal eq is (Some p) (Some q) = is p q
+equal eq is (Some p) None = refl
+equal eq is None (Some q) = refl
+equal eq is None None = refl
 
-pub find-at-requires : goal.find-at-requires
-find-at-requires c = known_2 c
+pub slice_bounds-room-end : goal.slice_bounds-room-end
+slice_bounds-room-end c = within_room _ _ _ _ c.list_all-count.ensures
 
--- the table is that of the listing
-known_3 : (c : After-repeat-arg-1) → let a = c.args in
-    Known a.listing.now a.base (table c.list_all-entries.new.addresses c.list_all-entries.new.places c.list_all-entries.result)
-known_3 c =
-    let p = parts c.args.listing.now c.args.base c.requires.0 in
-    (c.requires.0, rw c.list_all-entries.ensures (table_tells c.args.listing.now c.args.base p.size p.first _ _ (search rules) (search rules)))
+pub slice_bounds-chart-end : goal.slice_bounds-chart-end
+slice_bounds-chart-end c =
+    let within = within_room _ _ _ _ c.list_all-count.ensures in
+    omega (arith, length-take c.list_all-count.result c.list_all-count.new.room)
 
--- what was found is where the machine is
-seated_3 : (c : After-repeat-arg-1) → let a = c.args in c.find-at.result ≡ seat_at a.listing.now a.base (held a.running.machine PC)
-seated_3 c = rw c.register-address.ensures at c.find-at.ensures
+pub invariant_of-chart : goal.invariant_of-chart
+invariant_of-chart c =
+    let a = c.args in
+    let p = parts a.listing.now a.base c.requires.0 in
+    record { known = (c.requires.0, all_listed _ _ (λ q o. omega (arith, sound_low a.listing.now a.base p.first q o)) p.size _ (search rules) _ _ c.list_all-count.ensures) }
 
 pub repeat-requires : goal.repeat-requires
-repeat-requires c = (known_3 c, seated_3 c, search rules, search rules)
+repeat-requires c = (rw c.register.ensures at c.find-at.ensures, search rules, search rules)
 
--- what was found is where the machine is
-seated_4 : (c : After-slice_known-then-agrees-1) → let a = c.args in c.find-at.result ≡ seat_at a.listing.now a.base (held a.running.machine PC)
-seated_4 c = rw c.register-address.ensures at c.find-at.ensures
-
--- whether it agrees
-agrees_2 : (c : After-slice_known-then-agrees-1) → let a = c.args in
-    c.is_same.result ≡ same_place a.running.stored (walks_place (rehearsal a.listing.now a.base a.setup) a.running.machine)
-unfolding walks_place seat_at
-agrees_2 c = rw (seated_4 c) at c.is_same.ensures
-
-pub returns-then-agrees : goal.returns-then-agrees
-returns-then-agrees c =
+pub returns-then-anew-eq : goal.returns-then-anew-eq
+returns-then-anew-eq c =
     let a = c.args in
-    let t : (a.anew || c.is_same.result) ≡ true = c.if-agrees.true in
-    rw (← agrees_2 c, t) c.repeat.ensures
-
--- what was found is where the machine is
-seated_5 : (c : After-stop) → let a = c.args in c.find-at.result ≡ seat_at a.listing.now a.base (held a.running.machine PC)
-seated_5 c = rw c.register-address.ensures at c.find-at.ensures
-
--- whether it agrees
-agrees_3 : (c : After-stop) → let a = c.args in
-    c.is_same.result ≡ same_place a.running.stored (walks_place (rehearsal a.listing.now a.base a.setup) a.running.machine)
-unfolding walks_place seat_at
-agrees_3 c = rw (seated_5 c) at c.is_same.ensures
+    let h = rehearsal a.listing.now a.base a.setup in
+    let same = agreed h a.running.machine a.running.stored c.find-at.result c.eq.result (rw c.register.ensures at c.find-at.ensures) (c.eq.ensures ∙ equal _ (λ p q. refl) _ _) in
+    rw (← same, c.if-anew-eq.true) c.repeat.ensures
 
 pub returns : goal.returns
 unfolding halt
 returns c =
     let a = c.args in
-    let t : (a.anew || c.is_same.result) ≡ false = c.if-agrees.false in
-    rw (← agrees_3 c, t, c.stop.ensures)
+    let h = rehearsal a.listing.now a.base a.setup in
+    let same = agreed h a.running.machine a.running.stored c.find-at.result c.eq.result (rw c.register.ensures at c.find-at.ensures) (c.eq.ensures ∙ equal _ (λ p q. refl) _ _) in
+    rw (← same, c.if-anew-eq.false, c.stop.ensures)

@@ -3,25 +3,21 @@ use mathlib.Core.Path.{◌≡◌, refl, ◌∙◌}
 use native.Mathlib.Omega.{arith}
 use lib.IntN.{pos, negsuc, ◌-ℤ◌}
 use mir.Syntax.{w32}
-use mir.Val.{SFits, to_z}
+use mir.Val.{SFits, to_z, of_z}
 use mir.Facts.{to_z-of_z}
 use Rattle.word.proofs.Integers.{minus_one_less}
 use Rattle.saturate.specs.Saturate.{SSAT}
 use Rattle.saturate.proofs.Laws.{most_held, least_held}
 use Rattle.saturate.proofs.ssat.Goals as goal
-use Rattle.saturate.proofs.ssat.Goals.{Joined-bits-eq0, then-bits-eq0, else-bits-eq0}
 
-most : (c : Joined-bits-eq0) → to_z w32 c.if-bits-eq0.most-bits ≡ pos (min (2 ^ (c.args.bits - 1)) (2 ^ 31) - 1)
+most : (c : goal.After-most_of-most) → to_z w32 (of_z w32 c.most_of-most.result) ≡ pos (min (2 ^ (c.args.bits - 1)) (2 ^ 31) - 1)
 most c =
-    elim c.if-bits-eq0.branch [
-      | then-bits-eq0 w ↦ rw (w.most-is, w.if-bits-eq0.true)
-      | else-bits-eq0 w ↦ w.most-is ∙ to_z-of_z {w = w32} {z = w.most_of-most.result} (record { sfits = w.most_of-most.type_inv }) ∙ w.most_of-most.ensures
-    ]
+    to_z-of_z {w = w32} (record { sfits = c.most_of-most.type_inv }) ∙ rw c.saturating_sub.ensures at c.most_of-most.ensures
 
 -- the least, and that it is an i32
-least : (c : Joined-bits-eq0)
+least : (c : goal.After-most_of-most)
     → let n = 2 ^ (c.args.bits - 1) in
-    let z = negsuc 0 -ℤ to_z w32 c.if-bits-eq0.most-bits in
+    let z = negsuc 0 -ℤ to_z w32 (of_z w32 c.most_of-most.result) in
     (z ≡ negsuc (min n (2 ^ 31) - 1)) × SFits w32 z
 least c =
     let k = min (2 ^ (c.args.bits - 1)) (2 ^ 31) - 1 in

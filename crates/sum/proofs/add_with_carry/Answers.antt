@@ -1,24 +1,18 @@
-use Prim.Native.Nat.{◌+◌, ◌%◌, ◌^◌}
+use Prim.Native.Nat.{◌+◌, ◌^◌, ◌<◌}
 use native.Mathlib.Omega.{arith}
-use lib.Bits.{and_mask}
+use borrow.Author.Rules.{rules}
 use Rattle.word.specs.Word.{one_if}
 use Rattle.sum.specs.Sum.{add_with_carry}
-use Rattle.word.proofs.Numbers.{one_if_either, holds_once}
-use Rattle.sum.proofs.Laws.{overflow_by_signs}
+use Rattle.word.proofs.Numbers.{one_if_le}
+use Rattle.sum.proofs.Laws.{overflow_by_signs, carried, as_number}
 use Rattle.sum.proofs.add_with_carry.Goals as goal
-
-pub overflow_cast-value : goal.overflow_cast-value
-overflow_cast-value c = let a = c.args in omega (arith, and_mask (a.x + a.y + c.one_if.result) 32)
 
 pub returns : goal.returns
 unfolding add_with_carry
 returns c =
     let a = c.args in
-    let one = one_if_either a.carry in
-    let sum = a.x + a.y + one_if a.carry in
-    rw (and_mask (a.x + a.y + c.one_if.result) 32, c.one_if.ensures)
-    (λ i. record {
-      value = sum % 2 ^ 32;
-      carry = holds_once (2 ^ 32) sum (omega arith) i;
-      overflow = overflow_by_signs a.x a.y (one_if a.carry) (omega arith) (omega arith) (omega arith) i;
-    })
+    let s = c.carrying_add-value in
+    let i = one_if a.carry in
+    let bound : s.result.0 < 2 ^ 32 = search rules in
+    let k = carried s.result.0 (a.x + a.y + i) s.result.1 bound (rw (as_number a.carry) at s.ensures) in
+    rw (k.0, k.1, overflow_by_signs a.x a.y i (omega arith) (omega arith) (one_if_le a.carry))

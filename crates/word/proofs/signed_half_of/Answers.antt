@@ -1,13 +1,11 @@
 use native.Mathlib.Omega.{arith}
+use mathlib.Core.Path.{◌∙◌}
+use mir.Facts.{to_z-of_z}
 use mir.Syntax.{w16}
-use Rattle.word.proofs.Integers.{signed_bits, turned_over}
+use Rattle.word.proofs.Integers.{signed_bits}
 use Rattle.word.proofs.signed_half_of.Goals as goal
 
-pub returns-then-x-lt32768 : goal.returns-then-x-lt32768
-returns-then-x-lt32768 c = signed_bits w16 c.args.x (omega arith)
-
-pub overflow_sub-result : goal.overflow_sub-result
-overflow_sub-result c = (turned_over w16 c.args.x c.if-x-lt32768.false (omega arith)).0
-
 pub returns : goal.returns
-returns c = (turned_over w16 c.args.x c.if-x-lt32768.false (omega arith)).1
+returns c =
+    to_z-of_z {w = w16} (record { sfits = c.cast_signed.type_inv }) ∙ c.cast_signed.ensures
+    ∙ signed_bits w16 c.args.half (omega arith)

@@ -1,41 +1,18 @@
-use mathlib.Core.Path.{◌≡◌}
-use mathlib.Core.Bool.{not}
-use Rattle.landing.specs.Code.{table, is_listed}
-use Rattle.landing.proofs.Halves.{hits}
+use Rattle.word.proofs.Cases.{cases}
 use Rattle.listing.specs.Check.{astray}
 use Rattle.listing.proofs.Branches.{astray_by}
 use Rattle.listing.proofs.branch.is_astray.Goals as goal
-use Rattle.listing.proofs.branch.is_astray.Goals.{After-last_to, After-struct_known-in-At-1, In-None}
+
+pub returns-in-Some : goal.returns-in-Some
+returns-in-Some c =
+    let a = c.args in
+    rw c.in-Some.is at (astray_by _ c.requires a.w a.address.0 _ _ _ c.target-to.ensures c.in-Direct.is c.last_to.ensures)
+
+pub returns-in-None : goal.returns-in-None
+returns-in-None c =
+    let a = c.args in
+    rw c.in-None.is at (astray_by _ c.requires a.w a.address.0 _ _ _ c.target-to.ensures c.in-Direct.is c.last_to.ensures)
 
 pub returns-in-Next : goal.returns-in-Next
 unfolding astray
-returns-in-Next c = rw c.in-Next.is
-
-by_table : (c : After-last_to) → let a = c.args in
-    not (hits c.last_to.result c.target_of-to.result) ≡ astray (is_listed (table a.addresses.now a.places.now a.count)) a.w a.address.0
-by_table c =
-    astray_by _ c.requires c.args.w c.args.address.0 _ _ _ c.target_of-to.ensures c.in-Direct.is c.last_to.ensures
-
-by_table_2 : (c : After-struct_known-in-At-1) → let a = c.args in
-    not (hits c.last_to.result c.target_of-to.result) ≡ astray (is_listed (table a.addresses.now a.places.now a.count)) a.w a.address.0
-by_table_2 c =
-    astray_by _ c.requires c.args.w c.args.address.0 _ _ _ c.target_of-to.ensures c.in-Direct.is c.last_to.ensures
-
-pub returns-in-At : goal.returns-in-At
-returns-in-At c = rw c.in-At.is at (by_table_2 c)
-
-by_table_3 : (c : In-None) → let a = c.args in
-    not (hits c.last_to.result c.target_of-to.result) ≡ astray (is_listed (table a.addresses.now a.places.now a.count)) a.w a.address.0
-by_table_3 c =
-    astray_by _ c.requires c.args.w c.args.address.0 _ _ _ c.target_of-to.ensures c.in-Direct.is c.last_to.ensures
-
-pub returns-in-None : goal.returns-in-None
-returns-in-None c = rw c.in-None.is at (by_table_3 c)
-
-pub returns-in-Taken : goal.returns-in-Taken
-unfolding astray
-returns-in-Taken c = rw c.in-Taken.is
-
-pub returns-in-Fills : goal.returns-in-Fills
-unfolding astray
-returns-in-Fills c = rw c.in-Fills.is
+returns-in-Next c = cases c.in-Next.is (λ e. rw e) (λ f. cases f (λ e. rw e) (λ e. rw e))

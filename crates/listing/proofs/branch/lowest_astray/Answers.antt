@@ -1,109 +1,67 @@
-use mathlib.Core.Path.{◌≡◌, refl, ◌∙◌}
+use mathlib.Core.Path.{◌≡◌, refl}
 use native.Mathlib.Omega.{arith}
-use Rattle.std.specs.Bool.{if◌then◌else◌}
+use lib.ListN.{length}
+use Rattle.std.proofs.Common.{◌-◌, ◌+◌}
 use Rattle.layout.proofs.Members.{start_on, next_on}
-use Rattle.layout.proofs.Turns.{Passed, passed, ended, stopped, ends_last, stops_last}
-use Rattle.layout.specs.Layout.{meets, layout}
+use Rattle.layout.proofs.Turns.{passed, ended, stopped, ends_last, stops_last}
+use Rattle.layout.specs.Layout.{layout}
 use Rattle.listing.specs.Check.{branch_fault, second_pass}
 use Rattle.listing.proofs.Passes.{pass_on, pass_here, pass_last, pass_none}
 use Rattle.listing.proofs.Accepted.{sound_low}
 use Rattle.listing.proofs.Branches.{branch_number}
 use Rattle.listing.proofs.branch.lowest_astray.Goals as goal
-use Rattle.listing.proofs.branch.lowest_astray.Goals.{After-is_astray-off, After-place-1, Else-off}
 
-pub loop-left-init : goal.loop-left-init
+pub loop-init : goal.loop-init
 unfolding second_pass layout
-loop-left-init c =
+loop-init c =
     let a = c.args in
-    rw c.start_of-point.ensures (start_on a.listing.now a.base, refl)
+    let z : length a.listing.now + 1 - 0 ≡ length a.listing.now + 1 = omega arith in
+    rw c.start_of-point.ensures (record { on = start_on a.listing.now a.base; same = rw z })
 
--- the record was seen, and its number is the one by the table
-went : (c : After-is_astray-off) → let s = c.before.before.before.before.before in
-    Passed c.args.listing.now c.loop-left.point
-    c.in-Goes.w c.in-Goes.next
-went c =
-    let s = c.before.before.before.before.before in
-    let l = c.loop-left in
-    let low = sound_low c.args.listing.now c.args.base c.requires.0 l.point l.invariant.0 in
-    passed c.args.listing.now l.point _ c.see.ensures _ _ c.in-Goes.is (omega arith)
-
-number : (c : After-is_astray-off) → let s = c.before.before.before.before.before in
+pub returns-then-is_astray : goal.returns-then-is_astray
+returns-then-is_astray c =
+    let l = c.loop in
     let a = c.args in
-    let point = c.loop-left.point in
-    branch_fault a.listing.now a.base (meets a.listing.now point) point ≡ (if c.is_astray-off.result then 9 else 0)
-number c =
-    let s = c.before.before.before.before.before in
-    branch_number c.args.listing.now c.args.base _ c.requires.1 c.loop-left.point _ _ (went c) _ c.is_astray-off.ensures
+    let listing = a.listing.now in
+    let low = sound_low listing a.base c.requires.0 l.point l.invariant.on in
+    let g = passed listing l.point _ _ (rw c.in-Ok-Some.field-0-is at c.in-Ok-Some.ensures) (omega arith) in
+    let n = branch_number listing a.base _ c.requires.1 l.point _ _ g _ c.is_astray.ensures in
+    pass_here _ l.point (length listing + 1 - l.counter) _ _ l.invariant.same (omega arith) _ _ g 9 (rw c.if-is_astray.true at n) refl
 
--- the record was seen, and its number is the one by the table
-went_2 : (c : After-place-1) → let s = c.before.before.before.before.before in
-    Passed c.args.listing.now c.loop-left.point
-    c.in-Goes.w c.in-Goes.next
-went_2 c =
-    let s = c.before.before.before.before.before in
-    let l = c.loop-left in
-    let low = sound_low c.args.listing.now c.args.base c.requires.0 l.point l.invariant.0 in
-    passed c.args.listing.now l.point _ c.see.ensures _ _ c.in-Goes.is (omega arith)
-
-number_2 : (c : After-place-1) → let s = c.before.before.before.before.before in
+pub loop-preserved : goal.loop-preserved
+loop-preserved c =
+    let l = c.loop in
     let a = c.args in
-    let point = c.loop-left.point in
-    branch_fault a.listing.now a.base (meets a.listing.now point) point ≡ (if c.is_astray-off.result then 9 else 0)
-number_2 c =
-    let s = c.before.before.before.before.before in
-    branch_number c.args.listing.now c.args.base _ c.requires.1 c.loop-left.point _ _ (went_2 c) _ c.is_astray-off.ensures
+    let listing = a.listing.now in
+    let low = sound_low listing a.base c.requires.0 l.point l.invariant.on in
+    let g = passed listing l.point _ _ (rw c.in-Ok-Some.field-0-is at c.in-Ok-Some.ensures) (omega arith) in
+    let n = branch_number listing a.base _ c.requires.1 l.point _ _ g _ c.is_astray.ensures in
+    let left = length listing + 1 - l.counter in
+    let e : length listing + 1 - (l.counter + 1) ≡ left - 1 = omega arith in
+    record {
+      on = next_on _ _ l.point l.invariant.on _ _ g.goes;
+      same = rw e (pass_on _ l.point left _ _ l.invariant.same (omega arith) _ _ g (rw c.if-is_astray.false at n));
+    }
 
-pub returns-then-off : goal.returns-then-off
-returns-then-off c =
-    let l = c.loop-left in
-    let taken = c.loop-left-test.true in
-    pass_here _ l.point l.left _ _ l.invariant.1 taken _ _ (went_2 c) 9 (rw c.if-off.true at (number_2 c)) refl
-
--- the record was seen, and its number is the one by the table
-went_3 : (c : Else-off) → let s = c.before.before.before.before.before in
-    Passed c.args.listing.now c.loop-left.point
-    c.in-Goes.w c.in-Goes.next
-went_3 c =
-    let s = c.before.before.before.before.before in
-    let l = c.loop-left in
-    let low = sound_low c.args.listing.now c.args.base c.requires.0 l.point l.invariant.0 in
-    passed c.args.listing.now l.point _ c.see.ensures _ _ c.in-Goes.is (omega arith)
-
-number_3 : (c : Else-off) → let s = c.before.before.before.before.before in
-    let a = c.args in
-    let point = c.loop-left.point in
-    branch_fault a.listing.now a.base (meets a.listing.now point) point ≡ (if c.is_astray-off.result then 9 else 0)
-number_3 c =
-    let s = c.before.before.before.before.before in
-    branch_number c.args.listing.now c.args.base _ c.requires.1 c.loop-left.point _ _ (went_3 c) _ c.is_astray-off.ensures
-
-pub loop-left-preserved : goal.loop-left-preserved
-loop-left-preserved c =
-    let l = c.loop-left in
-    let taken = c.loop-left-test.true in (
-      next_on _ _ l.point l.invariant.0 _ _ (went_3 c).goes,
-      pass_on _ l.point l.left _ _ l.invariant.1 taken _ _ (went_3 c) (rw c.if-off.false at (number_3 c)),
-    )
-
-pub returns-in-Ends : goal.returns-in-Ends
+pub returns-in-Ok-None : goal.returns-in-Ok-None
 unfolding branch_fault
-returns-in-Ends c =
-    let l = c.loop-left in
+returns-in-Ok-None c =
+    let l = c.loop in
     let listing = c.args.listing.now in
-    let told = c.in-Ends.is in
-    let last = ends_last listing l.point _ c.see.ensures told l.left c.loop-left-test.true in
-    c.accept.ensures ∙ pass_last listing l.point l.left _ _ l.invariant.1 last 0 (rw (ended listing l.point _ c.see.ensures told))
+    let left = length listing + 1 - l.counter in
+    let last = ends_last listing l.point (rw c.in-Ok-None.field-0-is at c.in-Ok-None.ensures) left (omega arith) in
+    pass_last listing l.point left _ _ l.invariant.same last 0 (rw (ended listing l.point (rw c.in-Ok-None.field-0-is at c.in-Ok-None.ensures)))
 
-pub returns-in-Stops : goal.returns-in-Stops
+pub returns-in-Err : goal.returns-in-Err
 unfolding branch_fault
-returns-in-Stops c =
-    let l = c.loop-left in
+returns-in-Err c =
+    let l = c.loop in
     let listing = c.args.listing.now in
-    let told = c.in-Stops.is in
-    let last = stops_last listing l.point _ c.see.ensures _ told l.left c.loop-left-test.true in
-    c.accept-in-Stops.ensures ∙ pass_last listing l.point l.left _ _ l.invariant.1 last 0 (rw (stopped listing l.point _ c.see.ensures _ told))
+    let left = length listing + 1 - l.counter in
+    let last = stops_last listing l.point _ c.in-Err.ensures left (omega arith) in
+    pass_last listing l.point left _ _ l.invariant.same last 0 (rw (stopped listing l.point _ c.in-Err.ensures))
 
 pub returns : goal.returns
 returns c =
-    let l = c.loop-left in
-    c.accept-2.ensures ∙ pass_none _ l.point l.left _ _ l.invariant.1 c.loop-left-test.false
+    let l = c.loop in
+    pass_none _ l.point (length c.args.listing.now + 1 - l.counter) _ _ l.invariant.same (omega arith)

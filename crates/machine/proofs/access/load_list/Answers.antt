@@ -1,22 +1,23 @@
-use Rattle.std.proofs.Common.{◌≡◌, refl, arith}
-use Rattle.transfer.proofs.Laws.{slot_first, slot_next}
-use Rattle.machine.specs.Access.{list_loaded}
+use Rattle.std.proofs.Common.{rules, ◌≡◌, true, false}
+use Rattle.register_list.specs.List.{member}
+use Rattle.transfer.proofs.Laws.{slot_next}
 use Rattle.machine.proofs.Laws.{loaded_next}
 use Rattle.machine.proofs.access.load_list.Goals as goal
-
-pub loop-i-init : goal.loop-i-init
-unfolding list_loaded
-loop-i-init c = (omega arith, slot_first c.args.list c.args.low (omega arith), refl)
+use Rattle.machine.proofs.access.load_list.Goals.{then-holds, else-holds}
 
 pub loop-i-preserved : goal.loop-i-preserved
 loop-i-preserved c =
     let a = c.args in
     let l = c.loop-i in
-    let listed = c.holds-listed.ensures in (
-      omega arith,
-      rw (← slot_next a.list a.low l.i, ← listed, ← l.invariant.1) c.next_slot-address.ensures,
-      rw (← loaded_next a.back a.list a.low a.memory.now a.setup l.i, ← listed, ← l.invariant.1, ← l.invariant.2) c.load_one-machine.ensures,
-    )
-
-pub returns : goal.returns
-returns c = let l = c.loop-i in let e : 16 ≡ l.i = omega arith in rw e l.invariant.2
+    elim c.if-holds.branch [
+      | then-holds w ↦
+          let e : member a.list l.i ≡ true = search rules in (
+            rw (← slot_next a.list a.low l.i, e, ← l.invariant.0) search rules,
+            rw (← loaded_next a.back a.list a.low a.memory.now a.setup l.i, e, ← l.invariant.0, ← l.invariant.1) search rules,
+          )
+      | else-holds w ↦
+          let e : member a.list l.i ≡ false = search rules in (
+            rw (← slot_next a.list a.low l.i, e, ← l.invariant.0) search rules,
+            rw (← loaded_next a.back a.list a.low a.memory.now a.setup l.i, e, ← l.invariant.1) search rules,
+          )
+    ]

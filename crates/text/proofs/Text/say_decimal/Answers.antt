@@ -10,10 +10,7 @@ use Rattle.text.proofs.Text.say_decimal.Goals as goal
 
 pub loop-at-init : goal.loop-at-init
 unfolding decimal
-loop-at-init c = (omega arith, refl, append-nil (decimal_within 10 c.args.number))
-
-pub slice_bounds-say-end : goal.slice_bounds-say-end
-slice_bounds-say-end c = simp length-set (omega arith)
+loop-at-init c = (refl, append-nil (decimal_within 10 c.args.number))
 
 pub returns-then-rest-lt10 : goal.returns-then-rest-lt10
 returns-then-rest-lt10 c =
@@ -25,15 +22,14 @@ returns-then-rest-lt10 c =
       take_all (10 - at) (drop at put) (simp (length-drop, length-set) (omega arith)),
       c.digit_of.ensures,
       ← last_digit l.rest l.digits l.at (omega arith) (omega arith) (omega arith),
-      l.invariant.2,
+      l.invariant.1,
     )
 
 pub loop-at-preserved : goal.loop-at-preserved
 loop-at-preserved c =
     let l = c.loop-at in (
-      omega arith,
       simp length-set (omega arith),
-      rw (c.digit_of.ensures, ← one_digit l.rest l.digits l.at (omega arith) (omega arith) (omega arith)) l.invariant.2,
+      rw (c.digit_of.ensures, ← one_digit l.rest l.digits l.at (omega arith) (omega arith) (omega arith)) l.invariant.1,
     )
 
 pub returns : goal.returns
@@ -41,5 +37,5 @@ unfolding decimal_within
 returns c =
     let l = c.loop-at in
     let none : l.at ≡ 0 = omega arith in
-    let all : l.digits ≡ decimal c.args.number = rw none at l.invariant.2 in
+    let all : l.digits ≡ decimal c.args.number = rw none at l.invariant.1 in
     rw (c.say-2.ensures, all)

@@ -1,11 +1,10 @@
 use Rattle.text.specs.Text.{flags_line}
-use Rattle.text.specs.Code.{appended}
+use Rattle.text.proofs.Texts.{added_append}
 use Rattle.text.proofs.lines.say_flags.Goals as goal
 
 pub returns : goal.returns
-unfolding flags_line appended
+unfolding flags_line
 returns c =
-    let e = c.before.before in
     rw (
       c.say-3.ensures,
       c.say-2.ensures,
@@ -15,4 +14,4 @@ returns c =
       c.bit_of-3.ensures,
       c.bit_of-2.ensures,
       c.bit_of.ensures,
-    )
+    ) (simp added_append)

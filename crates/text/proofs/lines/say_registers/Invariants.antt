@@ -1,11 +1,7 @@
-use Prim.Native.Nat.{◌-◌, ◌≤◌}
 use mathlib.Core.Path.{◌≡◌}
 use Rattle.text.specs.Text.{register_lines}
 use Rattle.text.specs.Code.{appended}
 use Rattle.text.proofs.lines.say_registers.Given as goal
 
 abbrev pub invariant-loop-i : goal.invariant-loop-i
-invariant-loop-i l = (l.i ≤ 16) × (l.more ≡ appended l.initial.more (register_lines l.i l.registers))
-
-abbrev pub decreases-loop-i : goal.decreases-loop-i
-decreases-loop-i l = 16 - l.i
+invariant-loop-i l = l.more ≡ appended l.initial.more (register_lines l.i l.registers)

@@ -1,0 +1,9 @@
+use lib.ListN.{get_or-eq_default}
+use mathlib.Core.List.{[], ◌∷◌}
+use mathlib.Core.Path.{sym}
+use native.Mathlib.Omega.{arith}
+use Rattle.record.specs.declared.op.RegisterOp.TheVariants.{Bx, Blx}
+use Rattle.record.proofs.code.RegisterOpFromU8.from.Goals as goal
+
+pub returns-in_default : goal.returns-in_default
+returns-in_default c = sym (get_or-eq_default (Bx ∷ []) Blx (omega arith))
