@@ -64,6 +64,7 @@ pub extern "C" fn simbhoket_check(listing: &[u8], base: u32) -> u64
     }
 }
 
+// What is no image is answered with 1 here and below: C is given the number, and there is no machine to refuse by name.
 // Memory and its base come and stay apart, as C lends them: one struct of both would hold a `&mut` slice, which every clause on memory would name.
 #[unsafe(no_mangle)]
 #[tactic(auto, unfolding(crate::specs::Interface::image_stepped, crate::specs::Interface::leaving, machine::specs::Machine::done, machine::specs::Machine::refused))]

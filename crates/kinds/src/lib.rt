@@ -21,14 +21,13 @@ use record::{
     ShiftedRegisterFields, TableBranchFields, UnaryFields,
 };
 
-// The record that the bytes are, by their kind. A kind is its byte here and in a run: `Record` is the enum of kinds, and a second one of bytes would be
-// made by one match more at each step, of a byte that the check has passed.
+// The record that the bytes are, by their kind. A kind is its byte here and in a run: `Record` is the enum of kinds, and an enum of bytes beside
+// it would say its 23 names a second time, to be matched again where the byte is matched now.
 #[tactic(auto, unfolding(crate::specs::Kinds::record_of, little::specs::Little::little))]
 pub fn record_from(r: [u8; 9]) -> Record
     ensures { result ≡ record_of r }
 {
-    let kind = r[0];
-    match kind {
+    match r[0] {
         0 => Record::Nop(form_of(r[1])),
         1 => Record::ShiftedRegister(shifted_register_from(r)),
         2 => Record::Constant(constant_from(r)),

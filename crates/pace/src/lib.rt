@@ -98,7 +98,7 @@ pub fn ahead_of(registers: &[u32; 16], r: &[u8]) -> u32
     here.wrapping_add(length_of(r))
 }
 
-// In machine bytes: bit 1 of the form byte, which in IT and NOP has no op before it.
+// In machine bytes: bit 1 of the form byte, which in IT and NOP has no op before it. By the byte of the kind, as in `take_effect`.
 fn length_of(r: &[u8]) -> u32
     requires { SteppedKind r.now }
     ensures { result ≡ machine_length (record_of r.now) }
@@ -119,7 +119,7 @@ fn form_length_of(bits: u8) -> u32
     if wide { 4 } else { 2 }
 }
 
-// The conditions that wait after a record.
+// The conditions that wait after a record, by the byte of its kind.
 pub fn waiting_after(waiting: Waiting, r: &[u8]) -> Waiting
     requires { Ready r.now waiting }
     ensures { result ≡ after (record_of r.now) waiting }
@@ -134,7 +134,7 @@ pub fn waiting_after(waiting: Waiting, r: &[u8]) -> Waiting
     waiting.drop_first()
 }
 
-// Does the condition that rules a record pass: the first that waits, or a branch's own?
+// Does the condition that rules a record pass: the first that waits, or a branch's own? By the byte of the kind.
 fn is_passed(flags: Flags, first: u8, r: &[u8]) -> bool
     requires { SteppedKind r.now }
     ensures { result ≡ passes flags (if nat_eq first none then own_condition (record_of r.now) else first) }

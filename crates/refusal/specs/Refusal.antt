@@ -1,4 +1,4 @@
--- "Refusals and ends": the numbers 1 to 7 and 9 of paper 01, each by a name. 0 stands where nothing is refused.
+-- "The numbers given back": those that refuse, 1 to 7 and 9, each by a name. 0 stands where nothing is refused; 8 and 10 are ends of a run.
 use Rattle.std.specs.Prelude.{ℕ, Result, Ok, Err}
 use Rattle.refusal.specs.declared.Refusal.{Refusal}
 use Rattle.refusal.specs.declared.Refusal.TheVariants.{Unfit, Unreadable, Restricted, Misplaced, Unaligned, Outside, Unsteady, Astray}

@@ -8,6 +8,7 @@ ghost use Rattle.rehearsal.specs.Code.{page};
 
 use machine::Machine;
 use reading::Place;
+use refusal::Refusal;
 use setup::Setup;
 use text::Text;
 
@@ -67,7 +68,7 @@ fn page_of(budget: u32, listing: &[u8]) -> Page
 {
     if LIMIT < listing.len() {
         return Page {
-            text: text::lines::check_text_of(1, 0),
+            text: text::lines::check_text_of(u32::from(Refusal::Unfit), 0),
             place: Place(0),
             stored: None,
         };

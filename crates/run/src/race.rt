@@ -19,7 +19,7 @@ pub struct Raced {
     pub waiting: Waiting,
 }
 
-// A step that was done: the place after it, the kind there, and what waits.
+// A step that was done: the place after it, the kind there by its byte (`kinds::record_from` says why), and what waits.
 #[derive(Clone, Copy)]
 pub struct Stride {
     pub place: usize,
