@@ -30,7 +30,7 @@ pub struct Answer {
     pub stored: Option<Place>,
 }
 
-#[derive(Drop)]
+#[derive(Clone, Copy)]
 pub struct Page {
     pub text: Text,
     pub place: Place,

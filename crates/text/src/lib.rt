@@ -6,16 +6,16 @@ ghost use Rattle.std.specs.Prelude.{◌≡◌, ◌<◌, ◌≤◌, [], length};
 ghost use Rattle.text.specs.Text.{digit, decimal, hex};
 ghost use Rattle.text.specs.Code.{appended};
 
-use arrayvec::ArrayVec;
-use std::io::Write;
 use std::marker::Model;
 
 pub mod lines;
 
-// Its bytes, as a list in contracts. The longest text of a run, with two numbers of ten digits, has 242.
-#[derive(Drop)]
+// Its bytes, as a list in contracts. The longest text of a run, with two numbers of ten digits, has 242. Behind the text they are 0: so a text
+// tells its fields, and can be copied, which the library's `ArrayVec` can't be.
+#[derive(Clone, Copy)]
 pub struct Text {
-    bytes: ArrayVec<u8, 256>,
+    bytes: [u8; 256],
+    count: usize,
 }
 
 impl Model for Text {
@@ -23,7 +23,20 @@ impl Model for Text {
 
     ghost Value = { List ℕ };
 
-    ghost view = { λ t. t.bytes.items };
+    ghost use Rattle.std.specs.Prelude.{◌≡◌, length, take};
+    ghost use Rattle.text.specs.Bytes.{IsText, bytes_of};
+    ghost use Rattle.std.proofs.Common.{arith};
+    ghost use Rattle.std.proofs.lemmas.List.{take-append-drop, length-take-le};
+
+    ghost view = { λ t. take t.count t.bytes };
+
+    ghost invariant = { λ t. IsText t.count t.bytes };
+
+    ghost inverse = { λ xs. record { bytes = bytes_of xs; count = length xs } };
+
+    ghost inverse_ok = { λ t h i. let n : length (take t.count t.bytes) ≡ t.count = length-take-le t.count t.bytes (omega (arith, h.all, h.within)) in
+        let all : bytes_of (take t.count t.bytes) ≡ t.bytes = rw (n, ← h.behind) (take-append-drop t.count t.bytes) in
+        record { bytes = all i; count = n i } };
 }
 
 impl Text {
@@ -31,7 +44,8 @@ impl Text {
         ensures { result ≡ [] }
     {
         Text {
-            bytes: ArrayVec::new(),
+            bytes: [0; 256],
+            count: 0,
         }
     }
 
@@ -39,7 +53,7 @@ impl Text {
         ensures value { result.now ≡ self.now }
         ensures fits { length result.now ≤ 256 }
     {
-        self.bytes.as_slice()
+        &self.bytes[..self.count]
     }
 
     // What does not fit is cut off.
@@ -47,7 +61,11 @@ impl Text {
     pub fn say(mut self, words: &[u8]) -> Self
         ensures { result ≡ appended self words.now }
     {
-        let _cut_off = self.bytes.write(words);
+        let from = self.count;
+        let more = words.len().min(256 - from);
+        let to = from + more;
+        self.bytes[from..to].copy_from_slice(&words[..more]);
+        self.count = to;
         self
     }
 
