@@ -88,10 +88,11 @@ fn load_list(registers: &mut [u32; 16], list: u16, low: u32, memory: &[u8], setu
 {
     let mut address = low;
     for i in 0..16u8 {
-        if register_list::holds(list, u32::from(i)) {
+        let listed = register_list::holds(list, u32::from(i));
+        if listed {
             let value = memory::load_word(memory, setup, address);
             lent::put(registers, i, value);
-            address = address.wrapping_add(4);
         }
+        address = transfer::next_slot(listed, address);
     }
 }

@@ -167,10 +167,11 @@ fn load_list(back: Machine, list: u16, low: u32, memory: &[u8], setup: Setup) ->
     let mut machine = back;
     let mut address = low;
     for i in 0..16u8 {
-        if register_list::holds(list, u32::from(i)) {
+        let listed = register_list::holds(list, u32::from(i));
+        if listed {
             machine = machine.write(i, memory::load_word(memory, setup, address));
-            address = address.wrapping_add(4);
         }
+        address = transfer::next_slot(listed, address);
     }
     machine
 }

@@ -166,10 +166,11 @@ pub fn store_list(setup: Setup, memory: &mut [u8], registers: [u32; 16], list: u
 {
     let mut address = lowest;
     for i in 0..16u8 {
-        if register_list::holds(list, u32::from(i)) {
+        let listed = register_list::holds(list, u32::from(i));
+        if listed {
             memory::store_word(memory, setup, address, registers[usize::from(i)]);
-            address = address.wrapping_add(4);
         }
+        address = next_slot(listed, address);
     }
 }
 
