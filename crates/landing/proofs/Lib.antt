@@ -1,2 +1,3 @@
 pub mod Halves
-pub mod Entries
+pub mod Entering
+pub mod Tabling

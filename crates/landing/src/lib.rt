@@ -1,10 +1,10 @@
-// Landing places: their addresses, which rise, each with its place. They are searched by halves.
+// Landing places: a table of their addresses, which rise, and of their places. It is searched by halves.
 
 #![tactic(auto)]
 
-ghost use Rattle.std.specs.Prelude.{◌≡◌, length};
+ghost use Rattle.std.specs.Prelude.{◌≡◌, ◌≤◌, length};
 ghost use Rattle.layout.specs.Code.{seen_of};
-ghost use Rattle.landing.specs.Code.{landings, lands_seen, filling, entered, stocked, by_halves, last_to};
+ghost use Rattle.landing.specs.Code.{table, table_left, lands_seen, entered, tabled, by_halves, last_to};
 
 use flow::Way;
 use layout::Point;
@@ -19,8 +19,8 @@ pub struct Landing {
 
 // An entry for each landing place, in order, while there is room for it, and how many these are. A listing has at most 32,769: of 32,768
 // records, as each has two bytes or more, and of the end. One that is over its limit has none.
-pub fn list_all(listing: &[u8], base: u32, room: &mut [Landing]) -> usize
-    ensures { filling result room.new ≡ stocked (landings listing.now base) (filling 0 room.old) }
+pub fn list_all(listing: &[u8], base: u32, addresses: &mut [u32], places: &mut [u32]) -> usize
+    ensures { table_left result addresses.new places.new ≡ tabled listing.now base (table addresses.old places.old 0) }
 {
     if 65536 < listing.len() {
         return 0;
@@ -29,7 +29,7 @@ pub fn list_all(listing: &[u8], base: u32, room: &mut [Landing]) -> usize
     let mut count = 0;
     for _ in 0..listing.len() + 1 {
         let seen = layout::see(listing, point);
-        count = enter(room, count, point, is_landing(point, seen));
+        count = enter(addresses, places, count, point, is_landing(point, seen));
         match seen {
             Ok(Some((_, next))) => point = next,
             Ok(None) => return count,
@@ -47,41 +47,50 @@ fn is_landing(point: Point, seen: Result<Option<(Way, Point)>, Refusal>) -> bool
     layout::is_free(point) & !layout::is_filled(seen)
 }
 
-#[tactic(auto, unfolding(crate::specs::Code::put, crate::specs::Code::entered))]
-fn enter(room: &mut [Landing], count: usize, point: Point, lands: bool) -> usize
-    ensures { filling result room.new ≡ entered lands point (filling count room.old) }
+#[tactic(auto, unfolding(crate::specs::Code::entered))]
+fn enter(
+    addresses: &mut [u32],
+    places: &mut [u32],
+    count: usize,
+    point: Point,
+    lands: bool,
+) -> usize
+    ensures { table addresses.new places.new result ≡ entered lands point (table addresses.old places.old count) }
 {
-    if lands & (count < room.len()) {
-        room[count] = Landing {
-            address: (point.address.0 % 0x1_0000_0000) as u32,
-            place: point.place,
-        };
+    if lands & (count < addresses.len()) & (count < places.len()) {
+        addresses[count] = (point.address.0 % 0x1_0000_0000) as u32;
+        places[count] = (point.place.0 % 0x1_0000_0000) as u32;
         return count + 1;
     }
     count
 }
 
-// The last landing place that is not above an address.
-pub fn last_to(landings: &[Landing], address: u32) -> Option<Landing>
-    ensures { result ≡ last_to landings.now address }
+// Of a table with so many entries.
+pub fn last_to(addresses: &[u32], places: &[u32], count: usize, address: u32) -> Option<Landing>
+    ensures { result ≡ last_to (table addresses.now places.now count) address }
 {
-    let at = entries_to(landings, address);
+    let all = count.min(addresses.len().min(places.len()));
+    let at = entries_to(addresses, all, address);
     if at == 0 {
         return None;
     }
-    Some(landings[at - 1])
+    Some(Landing {
+        address: addresses[at - 1],
+        place: Place(places[at - 1] as usize),
+    })
 }
 
 // How many entries are not above an address, by halves: those before `low` are not, those from `high` on are. The library's `partition_point`
 // says nothing of entries that do not rise.
-fn entries_to(landings: &[Landing], address: u32) -> usize
-    ensures { result ≡ by_halves (length landings.now) landings.now address 0 (length landings.now) }
+fn entries_to(addresses: &[u32], count: usize, address: u32) -> usize
+    requires { count ≤ length addresses.now }
+    ensures { result ≡ by_halves count addresses.now address 0 count }
 {
     let mut low = 0;
-    let mut high = landings.len();
+    let mut high = count;
     while low < high {
         let middle = low + (high - low) / 2;
-        if landings[middle].address <= address {
+        if addresses[middle] <= address {
             low = middle + 1;
         } else {
             high = middle;

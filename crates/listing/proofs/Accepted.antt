@@ -39,7 +39,7 @@ lowest_none number (q ∷ ps) e p m = go (λ f n. lowest_none number ps f p n) (
     go rest true t f = cases (Memᴰ.cases_cons m) (λ s. ap number s ∙ eqb-true (number q) 0 t) (λ n. rest f n)
     go rest false t f = absurd (eqb-false (number q) 0 t f)
 
--- the place that is as_checked is 0 or that of a point
+-- the place that is reported is 0 or that of a point
 lowest_place : (P : ℕ → Type 0) → P 0 → (number : Point → ℕ) (ps : List Point) → ((p : Point) → Memᴰ p ps → P p.place.0)
     → P (lowest number ps).place.0
 unfolding lowest

@@ -15,20 +15,17 @@ use Rattle.layout.specs.Layout.{meets, layout}
 use Rattle.layout.proofs.Turns.{Passed}
 use Rattle.landing.specs.declared.Landing.{Landing}
 use Rattle.landing.specs.Landing.{lands_at, lands, landing}
-use Rattle.landing.specs.Code.{filling, stocked, landings, last_to, is_listed, landing_place, Rising, Tells}
+use Rattle.landing.specs.Code.{Table, table, tabled, last_to, is_listed, landing_place, Sorted, Tells}
 use Rattle.landing.proofs.Halves.{hits, last_listed}
-use Rattle.landing.proofs.Entries.{tells, all_listed}
-use Rattle.std.specs.Prelude.{Option, Some, is_some, take}
+use Rattle.landing.proofs.Tabling.{tells}
+use Rattle.std.specs.Prelude.{Option, Some, is_some}
 use Rattle.listing.specs.Check.{astray, branch_fault, first_pass}
 use Rattle.listing.proofs.Accepted.{sound_low}
 
--- the code's list of the landing places of a listing that the first pass leaves is that of all
-pub list_tells : (listing : List ℕ) (base : ℕ) → length listing ≤ 65536 → (first_pass listing base).number ≡ 0 → (room : List Landing)
-    → length room ≡ 32769 → (count : ℕ) (after : List Landing)
-    → filling count after ≡ stocked (landings listing base) (filling 0 room) → Tells (take count after) listing base
-list_tells listing base size sound room long count after e =
-    rw (all_listed listing base (λ p o. omega (arith, sound_low listing base sound p o)) size room long count after e)
-    (tells listing base (λ p o. omega (arith, sound_low listing base sound p o)) size)
+-- the code's table of a listing that the first pass leaves is that of its landing places
+pub table_tells : (listing : List ℕ) (base : ℕ) → length listing ≤ 65536 → (first_pass listing base).number ≡ 0 → (addresses places : List ℕ)
+    → length addresses ≡ 32769 → length places ≡ 32769 → Tells (tabled listing base (table addresses places 0)) listing base
+table_tells listing base size sound = tells listing base size (λ p o. omega (arith, sound_low listing base sound p o))
 
 pub target_mod : (address : ℕ) (w : Way) → target (address % 2 ^ 32) w ≡ target address w
 unfolding target
@@ -38,11 +35,11 @@ target_mod address Taken = refl
 target_mod address Fills = refl
 
 -- a direct branch is astray where the last landing place that is not above its target is another
-pub astray_by : (ls : List Landing) → Rising ls → (w : Way) (address to : ℕ) (found : Option Landing) (offset : ℤ) → to ≡ target (address % 2 ^ 32) w → w ≡ Direct offset
-    → found ≡ last_to ls to → not (hits found to) ≡ astray (is_listed ls) w address
+pub astray_by : (t : Table) → Sorted t → (w : Way) (address to : ℕ) (found : Option Landing) (offset : ℤ) → to ≡ target (address % 2 ^ 32) w → w ≡ Direct offset
+    → found ≡ last_to t to → not (hits found to) ≡ astray (is_listed t) w address
 unfolding astray
-astray_by ls rising w address to found offset e f g =
-    rw (g, ← last_listed ls rising to, e, target_mod address w, f)
+astray_by t sorted w address to found offset e f g =
+    rw (g, ← last_listed t sorted to, e, target_mod address w, f)
 
 place_lands : (listing : List ℕ) (address : ℕ) (ps : List Point) → is_some (landing_place listing address ps) ≡ lands listing address ps
 unfolding landing_place lands
@@ -62,10 +59,10 @@ astray_same f g same Taken address = refl
 astray_same f g same Fills address = refl
 
 -- the number of a record by the table
-pub branch_number : (listing : List ℕ) (base : ℕ) (ls : List Landing) → Tells ls listing base → (p : Point) (w : Way) (q : Point) → Passed listing p w q
-    → (off : Bool) → off ≡ astray (is_listed ls) w p.address.0 → branch_fault listing base (meets listing p) p ≡ (if off then 9 else 0)
+pub branch_number : (listing : List ℕ) (base : ℕ) (t : Table) → Tells t listing base → (p : Point) (w : Way) (q : Point) → Passed listing p w q
+    → (off : Bool) → off ≡ astray (is_listed t) w p.address.0 → branch_fault listing base (meets listing p) p ≡ (if off then 9 else 0)
 unfolding branch_fault landing
-branch_number listing base ls tells p w q g off e =
-    let same : (address : ℕ) → is_listed ls address ≡ landing listing base address =
+branch_number listing base t tells p w q g off e =
+    let same : (address : ℕ) → is_listed t address ≡ landing listing base address =
     λ address. ap is_some (tells.all address) ∙ place_lands listing address (layout listing base) in
-    rw (g.goes, ← g.leads, ← astray_same (is_listed ls) (landing listing base) same w p.address.0, ← e)
+    rw (g.goes, ← g.leads, ← astray_same (is_listed t) (landing listing base) same w p.address.0, ← e)

@@ -24,18 +24,11 @@ use Rattle.layout.proofs.Blocks.{nothing_waits, unparted, unparted_at, parted_as
 use Rattle.landing.specs.declared.Landing.{Landing}
 use Rattle.std.specs.Prelude.{Option, Some, None}
 use Rattle.landing.specs.Landing.{lands_here}
-use Rattle.landing.specs.Code.{last_to, Tells}
-use Rattle.landing.proofs.Entries.{tells, Lands, last_lands}
-use Rattle.listing.proofs.Accepted.{Accepted, parts, sound_low, not_stopped, end_waits}
-use Rattle.run.specs.Chart.{Known}
+use Rattle.landing.specs.Code.{Table, last_to, Tells}
+use Rattle.landing.proofs.Tabling.{Lands, last_lands}
+use Rattle.listing.proofs.Accepted.{Accepted, not_stopped, end_waits}
 use Rattle.run.specs.Place.{place_in}
 use Rattle.run.specs.Code.{due_at, seat, seat_at, sat, Like, Ahead, Seated}
-
--- the landing places of an accepted listing tell them all
-known_tells : (listing : List ℕ) (base : ℕ) (ls : List Landing) → Known listing base ls → Tells ls listing base
-known_tells listing base ls known =
-    let p = parts listing base known.0 in
-    rw known.1 (tells listing base (λ q o. omega (arith, sound_low listing base p.first q o)) p.size)
 
 -- a point of the layout stands for itself, and without what a filler is told by
 pub like_self : (listing : List ℕ) (base : ℕ) (p : Point) → On listing base p → Like listing base p
@@ -113,10 +106,10 @@ module _ (listing : List ℕ) (base : ℕ) (ok : Accepted listing base) where
       ahead_within = rw so_far.like.place (on_within listing base p so_far.like.on).inside
 
   -- ---- from a landing place
-  module _ (ls : List Landing) (known : Known listing base ls) (address : ℕ) (l : Landing) (found : Option Landing)
-      (is : found ≡ last_to ls address) (e : found ≡ Some l) where
+  module _ (t : Table) (tells : Tells t listing base) (address : ℕ) (l : Landing) (found : Option Landing)
+      (is : found ≡ last_to t address) (e : found ≡ Some l) where
     abbrev lands : Lands listing base l × (l.address ≤ address)
-    lands = last_lands listing base ls (known_tells listing base ls known) address l (sym is ∙ e)
+    lands = last_lands listing base t tells address l (sym is ∙ e)
 
     abbrev landed : Point
     landed = lands.0.point

@@ -1,8 +1,7 @@
--- What the code knows of a listing that it runs: it is accepted, and these are its landing places.
+-- What the code knows of a listing that it runs: it is accepted, and this is the table of its landing places.
 use Rattle.std.specs.Prelude.{ℕ, ◌≡◌, List}
-use Rattle.landing.specs.declared.Landing.{Landing}
-use Rattle.landing.specs.Code.{landings}
+use Rattle.landing.specs.Code.{Table, Tells}
 use Rattle.listing.specs.Check.{checked}
 
-abbrev pub Known : List ℕ → ℕ → List Landing → Type 0
-Known listing base ls = ((checked listing base).number ≡ 0) × (ls ≡ landings listing base)
+abbrev pub Known : List ℕ → ℕ → Table → Type 0
+Known listing base t = ((checked listing base).number ≡ 0) × Tells t listing base

@@ -17,7 +17,6 @@ mod race;
 mod seat;
 
 use chart::Chart;
-use landing::Landing;
 use machine::Machine;
 use reading::Place;
 use refusal::Refusal;
@@ -175,7 +174,8 @@ fn stop(refusal: Refusal, place: Place, running: Running) -> Halted
     }
 }
 
-// A run of an accepted listing.
+// A run of an accepted listing. Its tables stay out of the frame in which the listing is checked.
+#[inline(never)]
 fn go(
     running: Running,
     anew: bool,
@@ -188,15 +188,15 @@ fn go(
     requires { ((checked listing.now base).number ≡ 0) × (good running.machine ≡ true) × (fits setup memory.old ≡ true) }
     ensures { halting (as_halted result) memory.new ≡ halt (set_out anew budget (rehearsal listing.now base setup) (state running.machine memory.old) running.stored) }
 {
-    let mut room = [Landing {
-        address: 0,
-        place: Place(0),
-    }; 32769];
-    let count = landing::list_all(listing, base, &mut room);
+    let mut addresses = [0u32; 32769];
+    let mut places = [0u32; 32769];
+    let count = landing::list_all(listing, base, &mut addresses, &mut places);
     let chart = Chart {
         listing,
         base,
-        landings: &room[..count],
+        addresses: &addresses,
+        places: &places,
+        count,
     };
     let at = chart.find(running.machine.register(Machine::PC));
     if anew | (running.stored == at.stored) {

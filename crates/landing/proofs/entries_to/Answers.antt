@@ -1,21 +1,22 @@
 use mathlib.Core.Path.{refl}
 use native.Mathlib.Omega.{arith}
-use lib.ListN.{length}
 use Rattle.landing.proofs.Halves.{halved, halved_up, halved_down}
 use Rattle.landing.proofs.entries_to.Goals as goal
 
 pub loop-low-init : goal.loop-low-init
-loop-low-init c = record { order = omega arith; within = omega arith; more = length c.args.landings.now; enough = omega arith; same = refl }
+loop-low-init c = record { order = omega arith; within = omega arith; more = c.args.count; enough = omega arith; same = refl }
 
-pub loop-low-preserved-then-landings-middle : goal.loop-low-preserved-then-landings-middle
-loop-low-preserved-then-landings-middle c =
+pub loop-low-preserved-then-addresses-middle : goal.loop-low-preserved-then-addresses-middle
+loop-low-preserved-then-addresses-middle c =
     let l = c.loop-low in
-    halved_up c.args.landings.now c.args.address l.low l.high _ l.invariant (omega arith) c.if-landings-middle.true
+    let a = c.args in
+    halved_up a.addresses.now a.count a.address l.low l.high _ l.invariant (omega arith) c.if-addresses-middle.true
 
 pub loop-low-preserved : goal.loop-low-preserved
 loop-low-preserved c =
     let l = c.loop-low in
-    halved_down c.args.landings.now c.args.address l.low l.high _ l.invariant (omega arith) c.if-landings-middle.false
+    let a = c.args in
+    halved_down a.addresses.now a.count a.address l.low l.high _ l.invariant (omega arith) c.if-addresses-middle.false
 
 pub returns : goal.returns
-returns c = let l = c.loop-low in halved _ _ l.low l.high _ l.invariant c.loop-low-test.false
+returns c = let l = c.loop-low in halved _ _ _ l.low l.high _ l.invariant c.loop-low-test.false

@@ -1,14 +1,12 @@
 use mathlib.Core.Bool.{Bool}
 use mathlib.Core.Path.{◌≡◌, refl, ◌∙◌}
 use lib.Dec.{eqb}
-use native.Mathlib.Omega.{arith}
 use borrow.Author.Rules.{rules}
 use Rattle.std.specs.Prelude.{Option, Some, None}
 use Rattle.std.specs.Option.{option_eq}
-use Rattle.std.proofs.Common.{length-take}
 use Rattle.reading.specs.declared.Place.{Place}
-use Rattle.landing.proofs.Entries.{all_listed, within_room}
-use Rattle.listing.proofs.Accepted.{parts, sound_low}
+use Rattle.listing.proofs.Accepted.{parts}
+use Rattle.listing.proofs.Branches.{table_tells}
 use Rattle.machine.specs.declared.Machine.{Machine}
 use Rattle.machine.specs.Machine.{PC, held}
 use Rattle.run.specs.declared.seat.Seat.{Seat}
@@ -30,19 +28,11 @@ equal eq is (Some p) None = refl
 equal eq is None (Some q) = refl
 equal eq is None None = refl
 
-pub slice_bounds-room-end : goal.slice_bounds-room-end
-slice_bounds-room-end c = within_room _ _ _ _ c.list_all-count.ensures
-
-pub slice_bounds-chart-end : goal.slice_bounds-chart-end
-slice_bounds-chart-end c =
-    let within = within_room _ _ _ _ c.list_all-count.ensures in
-    omega (arith, length-take c.list_all-count.result c.list_all-count.new.room)
-
 pub invariant_of-chart : goal.invariant_of-chart
 invariant_of-chart c =
     let a = c.args in
     let p = parts a.listing.now a.base c.requires.0 in
-    record { known = (c.requires.0, all_listed _ _ (λ q o. omega (arith, sound_low a.listing.now a.base p.first q o)) p.size _ (search rules) _ _ c.list_all-count.ensures) }
+    record { known = (c.requires.0, rw c.list_all-count.ensures (table_tells a.listing.now a.base p.size p.first _ _ (search rules) (search rules))) }
 
 pub repeat-requires : goal.repeat-requires
 repeat-requires c = (rw c.register.ensures at c.find-at.ensures, search rules, search rules)

@@ -1,5 +1,3 @@
-use Rattle.word.proofs.Cases.{cases}
-use Rattle.listing.specs.Check.{astray}
 use Rattle.listing.proofs.Branches.{astray_by}
 use Rattle.listing.proofs.branch.is_astray.Goals as goal
 
@@ -12,7 +10,3 @@ pub returns-in-None : goal.returns-in-None
 returns-in-None c =
     let a = c.args in
     rw c.in-None.is at (astray_by _ c.requires a.w a.address.0 _ _ _ c.target-to.ensures c.in-Direct.is c.last_to.ensures)
-
-pub returns-in-Next : goal.returns-in-Next
-unfolding astray
-returns-in-Next c = cases c.in-Next.is (λ e. rw e) (λ f. cases f (λ e. rw e) (λ e. rw e))
