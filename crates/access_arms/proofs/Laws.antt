@@ -62,6 +62,13 @@ module _ (refusal : ℕ) (a : Result Unit Refusal) (h : number_of a ≡ refusal)
       let p = err_from_is_err_and q on in rw (p.1, p.2, ← h, t, some_number k)
 
 -- ---- a list
+-- a base written back where the record says so
+pub writeback_parts : (x : List ℕ) (f : Flags) (v : Waiting) (writes : Bool) (rn to : ℕ)
+    → (if writes then written (assembled x f v) rn to else assembled x f v) ≡ assembled (if not writes then x else put_in x rn to) f v
+unfolding written
+writeback_parts x f v true rn to = refl
+writeback_parts x f v false rn to = refl
+
 listed_parts : (x : List ℕ) (f : Flags) (v : Waiting) (listed : Bool) (n value : ℕ)
     → (if listed then written (assembled x f v) n value else assembled x f v) ≡ assembled (if listed then put_in x n value else x) f v
 unfolding written

@@ -5,7 +5,7 @@
 
 mod back;
 pub mod many;
-mod reach;
+pub mod reach;
 
 ghost use Rattle.std.specs.Prelude.{◌<◌};
 ghost use Rattle.refusal.specs.Refusal.{number_of};

@@ -1,5 +1,5 @@
 -- What the definitions of kinds 11 to 13 and 16 make of a machine that is put together from its parts.
-use Rattle.std.proofs.Common.{◌≡◌, ℕ, ◌+◌, ◌%◌, ◌^◌, Bool, true, false, List, length, get_or, set, Result, Ok, Err, IsErrAnd, refl, ap, arith, get_or-set_other, set-set}
+use Rattle.std.proofs.Common.{◌≡◌, ℕ, ◌+◌, ◌%◌, ◌^◌, Bool, true, false, eqb, List, length, get_or, set, Result, Ok, Err, IsErrAnd, refl, ap, arith, get_or-set_other, set-set}
 use Rattle.std.specs.Bool.{if◌then◌else◌}
 use Rattle.std.proofs.lemmas.Result.{err_from_is_err_and}
 use Rattle.refusal.specs.declared.Refusal.{Refusal}
@@ -21,7 +21,7 @@ use Rattle.record.specs.declared.TableBranchFields.{TableBranchFields}
 use Rattle.record.specs.declared.Record.TheVariants.{Branch, RegisterBranch, CompareBranch, TableBranch}
 use Rattle.flow.specs.Flow.{target, way, traits}
 use Rattle.machine.specs.declared.Machine.{Machine}
-use Rattle.machine.specs.Machine.{PC, LR, kept, held, operand_value, written, done, refused, landed, keeping}
+use Rattle.machine.specs.Machine.{PC, LR, kept, held, operand_value, written, done, refused, settled, landed, keeping}
 use Rattle.machine.specs.Branch.{linking, direct_target, branches, branch_effect, register_branch_effect, compare_branch_effect, table_branch_effect}
 use Rattle.machine.specs.Step.{effect}
 use Rattle.lent.specs.Lent.{assembled, put_in, operand_in, steady_in, Settled, came}
@@ -59,6 +59,13 @@ module _ (e : List ℕ) (f : Flags) (w v : Waiting) (ahead : ℕ) (bytes : List 
   unfolding effect branch_effect direct_target target way traits done held written
   branch_parts d x h = rw (h, linking_parts (put_in e PC ahead) f v (is_bl d.op))
 
+  pub register_parts : (d : RegisterBranchFields)
+      → let to = operand_in e d.rm in
+      effect m next (RegisterBranch d) bytes setup
+      ≡ keeping (if bit 0 to then settled m (assembled (put_in (link_in e ahead (is_blx d.op)) PC to) f v) else refused 7 m) bytes
+  unfolding effect register_branch_effect landed operand_value held written
+  register_parts d = rw (linking_parts (put_in e PC ahead) f v (is_blx d.op))
+
   module _ (d : RegisterBranchFields) (to : ℕ) (held_there : to ≡ operand_in e d.rm) where
     pub register_goes : (links : Bool) → links ≡ is_blx d.op → bit 0 to ≡ true
         → (x : List ℕ) (a : Result Unit Refusal) → Settled e (put_in (link_in e ahead links) PC to) x a
@@ -85,6 +92,17 @@ module _ (e : List ℕ) (f : Flags) (w v : Waiting) (ahead : ℕ) (bytes : List 
       → keeping (came 0 x f w v) bytes ≡ effect m next (CompareBranch d) bytes setup
   unfolding effect compare_branch_effect done held
   compare_stays d x t h = rw (t, h)
+
+  pub table_parts : (d : TableBranchFields)
+      → let at = entry_address d.op (operand_in e d.rn) (get_or e d.rm 0) in
+      let refusal = access_refusal Byte (entry_width d.op) setup (length bytes) at in
+      effect m next (TableBranch d) bytes setup
+      ≡ keeping (if eqb refusal 0 then done (assembled (put_in e PC (table_target (get_or e PC 0) (loaded (entry_width d.op) setup bytes at))) f v) else refused refusal m) bytes
+  unfolding effect table_branch_effect operand_value held written
+  table_parts d =
+      let at = entry_address d.op (operand_in e d.rn) (get_or e d.rm 0) in
+      let to = table_target (get_or e PC 0) (loaded (entry_width d.op) setup bytes at) in
+      rw (set-set e PC (kept PC ahead) (kept PC to))
 
   module _ (d : TableBranchFields) where
     abbrev at : ℕ

@@ -11,6 +11,15 @@ use lib.Seq.{set_out}
 use Rattle.machine.specs.declared.Machine.{Machine}
 use Rattle.machine.specs.Machine.{held, written, kept}
 
+pub held_past : (m : Machine) (register : ℕ) → length m.registers ≡ 16 → 16 ≤ register → 0 ≡ held m register
+unfolding held
+held_past m register e h = sym (get_or-eq_default m.registers 0 (omega arith))
+
+pub written_past : (m : Machine) (register value : ℕ) → length m.registers ≡ 16 → 16 ≤ register → m ≡ written m register value
+unfolding written
+written_past m register value e h =
+    let past : length m.registers ≤ register = omega arith in rw (set_out m.registers register (kept register value) past)
+
 pub loaded_next : (back : Machine) (list low : ℕ) (bytes : List ℕ) (setup : Setup) (r : ℕ)
     → let rest = list_loaded r back list low bytes setup in
     (if member list r then written rest r (loaded 4 setup bytes (slot list low r)) else rest)

@@ -1,12 +1,12 @@
 -- Quotients, of signed numbers rounded toward zero.
-use Prim.Native.Nat.{ℕ, zero, suc, ◌/◌, ◌^◌, ◌≤◌, ◌<◌}
+use Prim.Native.Nat.{ℕ, zero, suc, ◌-◌, ◌/◌, ◌^◌, ◌≤◌, ◌<◌}
 use mathlib.Core.Path.{◌≡◌, refl, sym, ap, ◌∙◌}
 use native.Mathlib.Omega.{arith}
-use native.Mathlib.Nat.{div-le_self, mod-eq_of_lt}
+use native.Mathlib.Nat.{div-one, div-le_self, div-lt_self, mod-eq_of_lt}
 use lib.IntN.{ℤ, pos, negsuc, neg_ℤ, nat_abs}
-use lib.Signed.{quot_z}
-use mir.Syntax.{w32}
-use mir.Val.{to_z, of_z}
+use lib.Signed.{mag, quot_z}
+use mir.Syntax.{Width, w32}
+use mir.Val.{SFits, hbits, to_z, of_z}
 use borrow.Author.Tests.{eq-eqb, ne_eqb}
 use Rattle.std.proofs.Common.{Option, None, Some, SomeIff}
 use Rattle.std.specs.Option.{unwrap_or}
@@ -14,6 +14,24 @@ use Rattle.word.specs.Word.{wrapped}
 use Rattle.word.proofs.Cases.{cases, le_or_gt}
 use Rattle.quotient.specs.Quotient.{UDIV}
 use Rattle.word.proofs.Integers.{signed_bits, wrapped_signed}
+
+mag_negated : (n k : ℕ) → n ≤ suc k → mag (neg_ℤ (pos n)) ≤ k
+mag_negated zero k h = omega arith
+mag_negated (suc n) k h = omega arith
+
+-- a quotient has the width of the dividend, but for the minimum by minus one
+pub quotient_fits : {w : Width} (x y : ℤ) → SFits w x → (x ≡ negsuc (2 ^ hbits w - 1) → y ≡ negsuc 0 → ⊥) → SFits w (quot_z x y)
+quotient_fits (pos a) (pos b) f apart = record { sfits = omega (arith, f.sfits, div-le_self a b) }
+quotient_fits (pos a) (negsuc b) f apart =
+    let h : a / suc b ≤ suc a = omega (arith, div-le_self a (suc b)) in
+    record { sfits = omega (arith, f.sfits, mag_negated (a / suc b) a h) }
+quotient_fits (negsuc a) (pos b) f apart =
+    record { sfits = omega (arith, f.sfits, mag_negated (suc a / b) a (div-le_self (suc a) b)) }
+quotient_fits {w} (negsuc a) (negsuc zero) f apart =
+    let h : a ≡ 2 ^ hbits w - 1 → ⊥ = λ e. apart (ap negsuc e) refl in
+    record { sfits = omega (arith, f.sfits, div-one (suc a)) }
+quotient_fits (negsuc a) (negsuc (suc b)) f apart =
+    record { sfits = omega (arith, f.sfits, div-lt_self {n = suc a} {k = suc (suc b)} (omega arith) (omega arith)) }
 
 abs_negated : (n : ℕ) → nat_abs (neg_ℤ (pos n)) ≡ n
 abs_negated zero = refl

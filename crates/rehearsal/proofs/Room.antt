@@ -1,9 +1,12 @@
 -- How a text comes into lent room, and that it is never longer than a text by value can be.
-use Prim.Native.Nat.{ℕ, ◌≤◌}
-use mathlib.Core.Path.{◌≡◌, ap}
-use mathlib.Core.List.{List}
+use Prim.Native.Nat.{ℕ, suc, ◌+◌, ◌≤◌, ◌<◌}
+use mathlib.Core.Path.{◌≡◌, sym, ◌∙◌, ap}
+use mathlib.Core.List.{List, ◌++◌}
+use native.Mathlib.Numerals.{add-one}
+use native.Mathlib.Omega.{arith}
 use lib.Dec.{ltb, eqb}
-use lib.ListN.{length, replicate}
+use lib.ListN.{length, take, drop, get_or, set, replicate}
+use lib.Seq.{drop-cons, take-suc, append_snoc, set_at, length-take-le}
 use Rattle.setup.specs.Setup.{at_base}
 use Rattle.word.proofs.Cases.{cases, yes_or_no}
 use Rattle.listing.specs.Check.{Checked, checked}
@@ -39,3 +42,12 @@ pub told_short : (answer : Answer) (budget : ℕ) (listing room after : List ℕ
     → answer.length ≤ 256
 unfolding rehearsed
 told_short answer budget listing room after e = rw (ap (λ (t : Told). t.answer.length) e) (text_length budget listing)
+
+-- one more byte copied to the front of a room
+pub laid_next : (bytes room : List ℕ) (i : ℕ) → i < length bytes → i < length room
+    → set (take i bytes ++ drop i room) i (get_or bytes i 0) ≡ take (i + 1) bytes ++ drop (i + 1) room
+laid_next bytes room i h k =
+    let byte = get_or bytes i 0 in
+    rw (add-one, drop-cons room i 0 k, take-suc bytes i 0 h)
+    (set_at (take i bytes) (get_or room i 0) (drop (suc i) room) byte i (length-take-le i bytes (omega arith))
+    ∙ sym (append_snoc (take i bytes) byte (drop (suc i) room)))

@@ -3,7 +3,7 @@ use Prim.Native.Nat.{ℕ, zero, suc, ◌+◌, ◌-◌, ◌*◌, ◌/◌, ◌%◌
 use mathlib.Core.Path.{◌≡◌, ap}
 use native.Mathlib.Omega.{arith}
 use native.Mathlib.Nat.{div-one, lt_of_le_of_lt}
-use lib.Bits.{bit_or, or_shifted, or_self}
+use lib.Bits.{bit_and, bit_or, and_mask, or_shifted, or_self}
 use Rattle.std.proofs.lemmas.Nat.{or_comm}
 use lib.IntN.{ℤ, pos, negsuc}
 use lib.Pow.{shr_lt}
@@ -15,14 +15,28 @@ use Rattle.word.specs.Word.{signed, wrapped}
 use Rattle.word.proofs.Numbers.{shift_mod, none_above}
 use Rattle.shift.specs.Shift.{rotated}
 
--- what comes in at the top is clear below, where the rest stands
-pub turned : (x m : ℕ) → x < 2 ^ 32 → m < 32 → bit_or (x / 2 ^ m) (x * 2 ^ ((32 - m) % 32) % 2 ^ 32) ≡ rotated x m
+-- what comes in at the top, below 2 ^ 32
+pub turned_in : (x m : ℕ) → m ≤ 32 → bit_and (x * 2 ^ (32 - m) % 2 ^ 64) (2 ^ 32 - 1) ≡ x % 2 ^ m * 2 ^ (32 - m)
+turned_in x m l =
+    let y = x * 2 ^ (32 - m) in
+    let e : m + (32 - m) ≡ 32 = omega arith in
+    let f : y % 2 ^ 64 % 2 ^ 32 ≡ y % 2 ^ 32 = omega arith in
+    rw (and_mask (y % 2 ^ 64) 32, f) (rw e at (shift_mod x m (32 - m)))
+
+pub turned : (x m : ℕ) → x < 2 ^ 32 → m ≤ 32 → bit_or (bit_and (x * 2 ^ (32 - m) % 2 ^ 64) (2 ^ 32 - 1)) (x / 2 ^ m) ≡ rotated x m
 unfolding rotated
-turned x zero h l =
+turned x m h l =
+    let e : (32 - m) + m ≡ 32 = omega arith in
+    rw (turned_in x m l, or_shifted (x % 2 ^ m) (32 - m) (x / 2 ^ m) (shr_lt (32 - m) m (rw e h))) (omega arith)
+
+-- the same of a word of 32 bits: what comes in at the top is clear below, where the rest stands
+pub turned_round : (x m : ℕ) → x < 2 ^ 32 → m < 32 → bit_or (x / 2 ^ m) (x * 2 ^ ((32 - m) % 32) % 2 ^ 32) ≡ rotated x m
+unfolding rotated
+turned_round x zero h l =
     let low : x / 2 ^ 0 ≡ x = omega arith in
     let high : x * 2 ^ 0 % 2 ^ 32 ≡ x = omega arith in
     rw (low, high, or_self x) (omega arith)
-turned x (suc k) h l =
+turned_round x (suc k) h l =
     let m = suc k in
     let n = 32 - m in
     let e : n % 32 ≡ n = omega arith in

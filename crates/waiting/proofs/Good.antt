@@ -64,6 +64,23 @@ pub record Good (w : Waiting) : Type 0 where
   pub third : Fine w.first w.second w.third
   pub fourth : Fine w.first w.third w.fourth
 
+pub good_is : (w : Waiting) → good_waiting w ≡ true → Good w
+unfolding good_waiting
+good_is w e =
+    let one = leb w.first none in
+    let two = good_place w.first w.first w.second in
+    let three = good_place w.first w.second w.third in
+    let four = good_place w.first w.third w.fourth in
+    let a = both_true (one && two && three) four e in
+    let b = both_true (one && two) three a.0 in
+    let c = both_true one two b.0 in
+    record {
+      first = leb-true w.first none c.0;
+      second = fine w.first w.first w.second c.1;
+      third = fine w.first w.second w.third b.1;
+      fourth = fine w.first w.third w.fourth a.1;
+    }
+
 pub is_good : (w : Waiting) → Good w → good_waiting w ≡ true
 unfolding good_waiting
 is_good w g =

@@ -67,6 +67,10 @@ wrapped_signed x h =
     let f = rw (signed_bits w32 x h) at (sfits_to_z {w = w32} {n = x} (record { fits = h })) in
     sym (wrapped_bits (signed x) f) ∙ bits_of_signed x h
 
+-- a signed number whose bits are known
+pub of_bits : {w : Width} (z : ℤ) (n : ℕ) → SFits w z → of_z w z ≡ n → z ≡ to_z w n
+of_bits {w} z n f e = sym (to_z-of_z f) ∙ ap (to_z w) e
+
 -- -1 - z turns every bit of z over
 pub minus_one_minus : (n : ℕ) → negsuc 0 -ℤ negsuc n ≡ pos n
 minus_one_minus n = rw (le-ltb (suc n) 1 (omega arith)) (ap pos (omega arith))
@@ -74,6 +78,18 @@ minus_one_minus n = rw (le-ltb (suc n) 1 (omega arith)) (ap pos (omega arith))
 pub minus_one_less : (n : ℕ) → negsuc 0 -ℤ pos n ≡ negsuc n
 minus_one_less zero = refl
 minus_one_less (suc n) = ap negsuc (omega arith)
+
+-- a number from half on is read by turning its bits over and taking that from -1
+pub turned_over : (w : Width) (x : ℕ) → 2 ^ hbits w ≤ x → x < 2 ^ bits w
+    → let z = negsuc 0 -ℤ to_z w (2 ^ bits w - 1 - x) in SFits w z × (to_z w (of_z w z) ≡ signed_in (bits w) x)
+turned_over w x l h =
+    let y = 2 ^ bits w - 1 - x in
+    let twice : 2 ^ bits w ≡ 2 ^ hbits w * 2 = rw (one_more w) (pow-suc 2 (hbits w)) in
+    let small : y < 2 ^ hbits w = omega arith in
+    let e : bits w - 1 ≡ hbits w = omega (arith, one_more w) in
+    let f : SFits w (negsuc y) = record { sfits = small } in
+    let g : 2 ^ bits w - suc x ≡ y = omega arith in
+    rw (lt-ltb y (2 ^ hbits w) small, minus_one_less y) (f, to_z-of_z f ∙ sym (rw g at (from_half (bits w) x (rw e l) h)))
 
 pub signed_inverted : (x : ℕ) → x < 2 ^ 32 → signed (inverted x) ≡ negsuc 0 -ℤ signed x
 signed_inverted x h =
@@ -120,6 +136,26 @@ wrapped_subtract k x (suc n) =
     let suc_rest = mod-lt (suc n) (pow_pos k) in
     let e : x + (m - 1 - n % m) + suc n / m * m ≡ x + (m - suc n % m) + n / m * m = omega arith in
     rw (wrapped_add k x (negsuc n)) (same_rest m (x + (m - 1 - n % m)) (x + (m - suc n % m)) (suc n / m) (n / m) e)
+
+-- every bit of a signed number turned over
+pub turned_fits : {w : Width} (z : ℤ) → SFits w z → SFits w (negsuc 0 -ℤ z)
+turned_fits (pos n) f = rw (minus_one_less n) (record { sfits = f.sfits })
+turned_fits (negsuc n) f = rw (minus_one_minus n) (record { sfits = f.sfits })
+
+-- the bits of a number below 0 are those of -1 - z turned over, and from 0 on they are the number
+pub bits_below : {w : Width} (z : ℤ) → SFits w z → lt_z z (pos 0) ≡ true
+    → T (non_neg (negsuc 0 -ℤ z)) × Fits w (nat_abs (negsuc 0 -ℤ z)) × (2 ^ bits w - 1 - nat_abs (negsuc 0 -ℤ z) ≡ wrapped (bits w) z)
+unfolding wrapped
+bits_below (pos n) f e = absurd (omega (arith, ltb-true n 0 e))
+bits_below {w} (negsuc n) f e =
+    let h = half_full w f.sfits in
+    rw (minus_one_minus n) (tt, record { fits = h }, rw (mod-eq_of_lt h))
+
+pub bits_from : {w : Width} (z : ℤ) → SFits w z → lt_z z (pos 0) ≡ false
+    → T (non_neg z) × Fits w (nat_abs z) × (nat_abs z ≡ wrapped (bits w) z)
+unfolding wrapped
+bits_from {w} (pos n) f e = let h = half_full w f.sfits in (tt, record { fits = h }, sym (mod-eq_of_lt h))
+bits_from (negsuc n) f e = let z : ◌≡◌ {A = Bool} true false = e in absurd (subst (λ (b : Bool). T b) z tt)
 
 -- the low k bits of more
 pub wrapped_low : (j k : ℕ) (z : ℤ) → wrapped (j + k) z % 2 ^ k ≡ wrapped k z
