@@ -159,7 +159,7 @@ function shape(name,    head, at, contract, left, right, count, lent, maker) {
     left = substr(contract, 1, at - 1)
     right = substr(contract, at + length(" ≡ "))
     if (!at || right ~ /\.new|×|→|⊎|∧|∨|≡/ || right ~ /(^|[^A-Za-z0-9_.])result([^A-Za-z0-9_]|$)/) return "C"
-    left = told(left)
+    left = told(left, answer_of(head))
     for (count = 0; match(head, /[a-z_]+: &('[a-z]+ )?mut /); count++) {
         lent = lent " " word_of(substr(head, RSTART)) ".new"
         head = substr(head, RSTART + RLENGTH)
@@ -171,10 +171,11 @@ function shape(name,    head, at, contract, left, right, count, lent, maker) {
     return maker in makers && left == maker " result" lent ? "B" : "C"
 }
 
-# `(x : T) → TELLER x result` or `MAKER (TELLER x result) memory.new`, of a teller as docs/PROMISES.md lists them, tells `result` apart
-function told(left,    before, after, name) {
+# `(x : T) → TELLER x result` or `MAKER (TELLER x result) memory.new`, of a teller as docs/PROMISES.md lists them, tells `result` apart: where
+# the function answers what the teller's theorem speaks of
+function told(left, answer,    before, after, name) {
     while (sub(/^\([a-z_]+ : [A-Z][a-z]+\) → /, "", left));
-    for (name in tellers) {
+    for (name in tellers) if (tellers[name] == answer) {
         if (left ~ ("^" name "( [a-z_.]+)* result$") && left !~ /result.* result$/) return "result"
         if (match(left, " \\(" name "( [a-z_.]+)* result\\)")) {
             before = substr(left, 1, RSTART)
@@ -183,6 +184,21 @@ function told(left,    before, after, name) {
         }
     }
     return left
+}
+
+# The type that a function answers, and that of a theorem, as the same words
+function answer_of(head) {
+    if (!sub(/^.* -> /, "", head)) return ""
+    gsub(/[a-z_]+::/, "", head)
+    gsub(/\(\)/, " Unit ", head)
+    return words_of(head)
+}
+
+function words_of(type) {
+    gsub(/[A-Za-z]+\./, "", type)
+    gsub(/[^A-Za-z0-9_]+/, " ", type)
+    gsub(/^ | $/, "", type)
+    return type
 }
 
 # May it change what a reference inside an argument lends?
@@ -326,14 +342,21 @@ function look_up_theorem(word,    file) {
     missing(word, "no such theorem in crates/*/proofs")
 }
 
-# it says that two answers which the teller tells alike are the same
-function look_up_telling(word,    file, of) {
+# it says that any two answers of a type which the teller tells alike are the same, and has no other premise
+function look_up_telling(word,    file, text, given, of) {
     of = teller "( [a-z]+)*"
-    for (file in text_of)
-        if (text_of[file] ~ ("\npub " word " : [^\n]* → " of " a ≡ " of " b → a ≡ b\n")) {
-            tellers[teller]
-            return
-        }
+    for (file in text_of) {
+        text = text_of[file]
+        if (!sub("^.*\npub " word " : ", "", text)) continue
+        sub(/\n.*$/, "", text)
+        if (!match(text, " → " of " a ≡ " of " b → a ≡ b$")) continue
+        given = substr(text, 1, RSTART - 1)
+        while (sub(/^\([a-z]+ : [A-Za-z.]+\) (→ )?/, "", given));
+        if (given !~ /^\(a b : [^:]*\)$/ || given ~ /→|≡/) continue
+        sub(/^\(a b : /, "", given)
+        tellers[teller] = words_of(given)
+        return
+    }
     missing(word, "it does not say that `" teller "` tells two answers apart")
 }
 
