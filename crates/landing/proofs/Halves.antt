@@ -11,7 +11,7 @@ use Rattle.std.specs.Prelude.{Option, None, Some}
 use Rattle.std.specs.Bool.{if◌then◌else◌}
 use Rattle.word.proofs.Cases.{cases, le_or_gt}
 use Rattle.landing.specs.declared.Landing.{Landing}
-use Rattle.landing.specs.Code.{Table, by_halves, last_of, last_to, among, looked_up, is_listed, Rising, Sorted}
+use Rattle.landing.specs.Code.{Table, addresses_by_halves, last_of_table, last_in_table, among, looked_up, is_listed, Rising, Sorted}
 
 -- the middle of what is left
 abbrev pub middle_of : ℕ → ℕ → ℕ
@@ -23,23 +23,23 @@ pub record Halving (addresses : List ℕ) (count address low high whole : ℕ) :
   pub within : high ≤ count
   pub more : ℕ
   pub enough : high - low ≤ more
-  pub same : by_halves more addresses address low high ≡ whole
+  pub same : addresses_by_halves more addresses address low high ≡ whole
 
 module _ (addresses : List ℕ) (count address low high whole : ℕ) (so_far : Halving addresses count address low high whole) where
   pub halved : high ≤ low → low ≡ whole
-  unfolding by_halves
+  unfolding addresses_by_halves
   halved h = go so_far.more so_far.same
     where
-      go : (more : ℕ) → by_halves more addresses address low high ≡ whole → low ≡ whole
+      go : (more : ℕ) → addresses_by_halves more addresses address low high ≡ whole → low ≡ whole
       go zero e = e
       go (suc more) e = rw (le-ltb low high h) at e
 
   module _ (still : low < high) where
     pub halved_up : get_or addresses (middle_of low high) 0 ≤ address → Halving addresses count address (middle_of low high + 1) high whole
-    unfolding by_halves
+    unfolding addresses_by_halves
     halved_up h = go so_far.more so_far.enough so_far.same
       where
-        go : (more : ℕ) → high - low ≤ more → by_halves more addresses address low high ≡ whole → Halving addresses count address (middle_of low high + 1) high whole
+        go : (more : ℕ) → high - low ≤ more → addresses_by_halves more addresses address low high ≡ whole → Halving addresses count address (middle_of low high + 1) high whole
         go zero n e = absurd (omega arith)
         go (suc more) n e = record {
           order = omega arith;
@@ -50,10 +50,10 @@ module _ (addresses : List ℕ) (count address low high whole : ℕ) (so_far : H
         }
 
     pub halved_down : address < get_or addresses (middle_of low high) 0 → Halving addresses count address low (middle_of low high) whole
-    unfolding by_halves
+    unfolding addresses_by_halves
     halved_down h = go so_far.more so_far.enough so_far.same
       where
-        go : (more : ℕ) → high - low ≤ more → by_halves more addresses address low high ≡ whole → Halving addresses count address low (middle_of low high) whole
+        go : (more : ℕ) → high - low ≤ more → addresses_by_halves more addresses address low high ≡ whole → Halving addresses count address low (middle_of low high) whole
         go zero n e = absurd (omega arith)
         go (suc more) n e = record {
           order = omega arith;
@@ -64,24 +64,24 @@ module _ (addresses : List ℕ) (count address low high whole : ℕ) (so_far : H
         }
 
 -- a search ends within its bounds
-pub halves_within : (addresses : List ℕ) (address more low high : ℕ) → low ≤ high → by_halves more addresses address low high ≤ high
-unfolding by_halves
+pub halves_within : (addresses : List ℕ) (address more low high : ℕ) → low ≤ high → addresses_by_halves more addresses address low high ≤ high
+unfolding addresses_by_halves
 halves_within addresses address zero low high h = h
 halves_within addresses address (suc more) low high h = go (λ l m n. halves_within addresses address more l m n) (ltb low high) refl
   where
     Rest : Type 0
-    Rest = (l m : ℕ) → l ≤ m → by_halves more addresses address l m ≤ m
+    Rest = (l m : ℕ) → l ≤ m → addresses_by_halves more addresses address l m ≤ m
 
     middle : ℕ
     middle = middle_of low high
 
     side : Rest → (t : Bool) → low < high
-        → (if t then by_halves more addresses address (middle + 1) high else by_halves more addresses address low middle) ≤ high
+        → (if t then addresses_by_halves more addresses address (middle + 1) high else addresses_by_halves more addresses address low middle) ≤ high
     side rest true l = rest (middle + 1) high (omega arith)
     side rest false l = omega (arith, rest low middle (omega arith))
 
     go : Rest → (t : Bool) → ltb low high ≡ t
-        → (if t then (if leb (get_or addresses middle 0) address then by_halves more addresses address (middle + 1) high else by_halves more addresses address low middle) else low) ≤ high
+        → (if t then (if leb (get_or addresses middle 0) address then addresses_by_halves more addresses address (middle + 1) high else addresses_by_halves more addresses address low middle) else low) ≤ high
     go rest true t = side rest (leb (get_or addresses middle 0) address) (ltb-true low high t)
     go rest false t = h
 
@@ -99,21 +99,21 @@ rising_from addresses count rising i j h l =
 
 module _ (addresses : List ℕ) (count address : ℕ) (rising : Rising addresses count) where
   halves_part : (more low high : ℕ) → high - low ≤ more → Parted addresses count address low high
-      → Parted addresses count address (by_halves more addresses address low high) (by_halves more addresses address low high)
-  unfolding by_halves
+      → Parted addresses count address (addresses_by_halves more addresses address low high) (addresses_by_halves more addresses address low high)
+  unfolding addresses_by_halves
   halves_part zero low high n p = let e : high ≡ low = omega (arith, p.order) in rw e at p
   halves_part (suc more) low high n p = go (λ l h m q. halves_part more l h m q) (ltb low high) refl
     where
       Rest : Type 0
       Rest =
           (l h : ℕ) → h - l ≤ more → Parted addresses count address l h
-          → Parted addresses count address (by_halves more addresses address l h) (by_halves more addresses address l h)
+          → Parted addresses count address (addresses_by_halves more addresses address l h) (addresses_by_halves more addresses address l h)
 
       middle : ℕ
       middle = middle_of low high
 
       side : Rest → (t : Bool) → leb (get_or addresses middle 0) address ≡ t → low < high
-          → let k = if t then by_halves more addresses address (middle + 1) high else by_halves more addresses address low middle in Parted addresses count address k k
+          → let k = if t then addresses_by_halves more addresses address (middle + 1) high else addresses_by_halves more addresses address low middle in Parted addresses count address k k
       side rest true t h =
           let here = leb-true (get_or addresses middle 0) address t in
           rest (middle + 1) high (omega arith) (record {
@@ -132,7 +132,7 @@ module _ (addresses : List ℕ) (count address : ℕ) (rising : Rising addresses
           })
 
       go : Rest → (t : Bool) → ltb low high ≡ t
-          → let k = if t then (if leb (get_or addresses middle 0) address then by_halves more addresses address (middle + 1) high else by_halves more addresses address low middle) else low in
+          → let k = if t then (if leb (get_or addresses middle 0) address then addresses_by_halves more addresses address (middle + 1) high else addresses_by_halves more addresses address low middle) else low in
           Parted addresses count address k k
       go rest true t = side rest (leb (get_or addresses middle 0) address) refl (ltb-true low high t)
       go rest false t = let e : high ≡ low = omega (arith, p.order, ltb-false low high t) in rw e at p
@@ -160,14 +160,14 @@ module _ (t : Table) (address : ℕ) where
 pub entry_found : (t : Table) → Sorted t → (i : ℕ) → i < t.count → looked_up t (get_or t.addresses i 0) ≡ Some (record { 0 = get_or t.places i 0 })
 entry_found t sorted i h = among_first t (get_or t.addresses i 0) t.count i h (λ j l e. omega (arith, sorted.rising j i l h)) refl
 
-pub last_none : (k : ℕ) (t : Table) → k ≡ 0 → last_of k t ≡ None
-unfolding last_of
+pub last_none : (k : ℕ) (t : Table) → k ≡ 0 → last_of_table k t ≡ None
+unfolding last_of_table
 last_none zero t e = refl
 last_none (suc k) t e = absurd (omega arith)
 
 pub last_before : (k : ℕ) (t : Table) → 0 < k
-    → last_of k t ≡ Some (record { address = get_or t.addresses (k - 1) 0; place = record { 0 = get_or t.places (k - 1) 0 } })
-unfolding last_of
+    → last_of_table k t ≡ Some (record { address = get_or t.addresses (k - 1) 0; place = record { 0 = get_or t.places (k - 1) 0 } })
+unfolding last_of_table
 last_before zero t h = absurd (omega arith)
 last_before (suc k) t h = let e : suc k - 1 ≡ k = omega arith in rw e
 
@@ -184,7 +184,7 @@ pub record Entry (t : Table) (address : ℕ) (l : Landing) : Type 0 where
 
 module _ (t : Table) (sorted : Sorted t) (address : ℕ) where
   abbrev at : ℕ
-  at = by_halves t.count t.addresses address 0 t.count
+  at = addresses_by_halves t.count t.addresses address 0 t.count
 
   parted : Parted t.addresses t.count address at at
   parted =
@@ -195,25 +195,25 @@ module _ (t : Table) (sorted : Sorted t) (address : ℕ) where
         above = λ i h l. absurd (omega arith);
       })
 
-  last_is : last_to t address ≡ last_of at t
-  unfolding last_to
+  last_is : last_in_table t address ≡ last_of_table at t
+  unfolding last_in_table
   last_is =
       let e : min t.count (min (length t.addresses) (length t.places)) ≡ t.count = omega (arith, sorted.fits, sorted.paired) in rw e
 
-  pub last_entry : (l : Landing) → last_to t address ≡ Some l → Entry t address l
-  unfolding last_of
+  pub last_entry : (l : Landing) → last_in_table t address ≡ Some l → Entry t address l
+  unfolding last_of_table
   last_entry l e = go at parted (sym last_is ∙ e)
     where
-      go : (k : ℕ) → Parted t.addresses t.count address k k → last_of k t ≡ Some l → Entry t address l
+      go : (k : ℕ) → Parted t.addresses t.count address k k → last_of_table k t ≡ Some l → Entry t address l
       go zero p f = absurd (cc)
       go (suc k) p f = record { index = k; listed = omega (arith, p.within); is = cc; below = p.below k (omega arith) }
 
   -- an address is listed where the last entry that is not above it has it
-  pub last_listed : is_listed t address ≡ hits (last_to t address) address
-  unfolding last_of
+  pub last_listed : is_listed t address ≡ hits (last_in_table t address) address
+  unfolding last_of_table
   last_listed = rw last_is (go at parted)
     where
-      go : (k : ℕ) → Parted t.addresses t.count address k k → is_listed t address ≡ hits (last_of k t) address
+      go : (k : ℕ) → Parted t.addresses t.count address k k → is_listed t address ≡ hits (last_of_table k t) address
       go zero p = rw (among_none t address t.count (λ i h e. omega (arith, p.above i (omega arith) h)))
       go (suc k) p = same (eqb (get_or t.addresses k 0) address) refl
         where

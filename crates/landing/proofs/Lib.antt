@@ -1,3 +1,5 @@
 pub mod Halves
 pub mod Entering
 pub mod Tabling
+pub mod Entries
+pub mod Once

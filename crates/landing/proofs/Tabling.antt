@@ -21,7 +21,7 @@ use Rattle.layout.proofs.Turns.{seen_as, Passed}
 use Rattle.layout.proofs.Members.{On, start_on, on_within, next_on}
 use Rattle.landing.specs.declared.Landing.{Landing}
 use Rattle.landing.specs.Landing.{lands_here, lands_at}
-use Rattle.landing.specs.Code.{Table, table, lands_seen, entered, all_entered, tabled, last_to, or_else, among, looked_up, Below, Rising, landing_place, Tells}
+use Rattle.landing.specs.Code.{Table, table, lands_seen, entered, all_entered, tabled, last_in_table, or_else, among, looked_up, Below, Rising, landing_place, Tells}
 use Rattle.landing.proofs.Halves.{last_entry, entry_found}
 use Rattle.landing.proofs.Entering.{Room, or_missing, OneMore, one_more}
 
@@ -173,7 +173,7 @@ placed_point listing address place (p ∷ ps) e C found =
         found p (Memᴰ.head refl) (eqb-true p.address.0 address b.0) same b.1
     go rest false t f = rest f
 
-pub last_lands : (listing : List ℕ) (base : ℕ) (t : Table) → Tells t listing base → (address : ℕ) (l : Landing) → last_to t address ≡ Some l
+pub last_lands : (listing : List ℕ) (base : ℕ) (t : Table) → Tells t listing base → (address : ℕ) (l : Landing) → last_in_table t address ≡ Some l
     → Lands listing base l × (l.address ≤ address)
 last_lands listing base t tells address l e =
     let n = last_entry t tells.sorted address l e in

@@ -1,5 +1,5 @@
 -- How the code keeps the landing places: a table of their addresses, which rise, and beside each address the place. Only so many entries
--- count, from the first on.
+-- count, from the first on. And how they are searched in one list.
 use Rattle.std.specs.Prelude.{ℕ, zero, suc, ◌+◌, ◌-◌, ◌/◌, ◌%◌, ◌^◌, ◌≤◌, ◌<◌, min, ◌≡◌, Bool, not, ◌&&◌, List, [], ◌∷◌, eqb, ltb, leb, length, get_or, set, Option, None, Some, is_some}
 use Rattle.std.specs.Bool.{if◌then◌else◌}
 use Rattle.reading.specs.declared.Place.{Place}
@@ -41,24 +41,46 @@ unfoldable pub tabled : List ℕ → ℕ → Table → Table
 tabled listing base t = if ltb 65536 (length listing) then t else all_entered listing (layout listing base) t
 
 -- how many addresses are not above one, of those between two bounds, by so many halvings at the most
-unfoldable pub by_halves : ℕ → List ℕ → ℕ → ℕ → ℕ → ℕ
-by_halves zero addresses address low high = low
-by_halves (suc more) addresses address low high =
+unfoldable pub addresses_by_halves : ℕ → List ℕ → ℕ → ℕ → ℕ → ℕ
+addresses_by_halves zero addresses address low high = low
+addresses_by_halves (suc more) addresses address low high =
     if ltb low high
     then (let middle = low + (high - low) / 2 in
-    if leb (get_or addresses middle 0) address then by_halves more addresses address (middle + 1) high else by_halves more addresses address low middle)
+    if leb (get_or addresses middle 0) address then addresses_by_halves more addresses address (middle + 1) high else addresses_by_halves more addresses address low middle)
     else low
 
 -- the last of so many entries
-unfoldable pub last_of : ℕ → Table → Option Landing
-last_of zero t = None
-last_of (suc k) t = Some (record { address = get_or t.addresses k 0; place = record { 0 = get_or t.places k 0 } })
+unfoldable pub last_of_table : ℕ → Table → Option Landing
+last_of_table zero t = None
+last_of_table (suc k) t = Some (record { address = get_or t.addresses k 0; place = record { 0 = get_or t.places k 0 } })
 
 -- the last entry that is not above an address
-unfoldable pub last_to : Table → ℕ → Option Landing
-last_to t address =
+unfoldable pub last_in_table : Table → ℕ → Option Landing
+last_in_table t address =
     let all = min t.count (min (length t.addresses) (length t.places)) in
-    last_of (by_halves all t.addresses address 0 all) t
+    last_of_table (addresses_by_halves all t.addresses address 0 all) t
+
+-- ---- landing places in one list
+abbrev pub at : List Landing → ℕ → Landing
+at landings i = get_or landings i (record { address = 0; place = record { 0 = 0 } })
+
+-- how many entries are not above an address, of those between two bounds, by so many halvings at the most
+unfoldable pub by_halves : ℕ → List Landing → ℕ → ℕ → ℕ → ℕ
+by_halves zero landings address low high = low
+by_halves (suc more) landings address low high =
+    if ltb low high
+    then (let middle = low + (high - low) / 2 in
+    if leb (at landings middle).address address then by_halves more landings address (middle + 1) high else by_halves more landings address low middle)
+    else low
+
+-- the last of so many entries
+unfoldable pub last_of : ℕ → List Landing → Option Landing
+last_of zero landings = None
+last_of (suc k) landings = Some (at landings k)
+
+-- the last entry that is not above an address
+unfoldable pub last_to : List Landing → ℕ → Option Landing
+last_to landings address = last_of (by_halves (length landings) landings address 0 (length landings)) landings
 
 -- ---- what a table says
 abbrev pub or_else : Option Place → Option Place → Option Place

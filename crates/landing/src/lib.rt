@@ -1,10 +1,10 @@
-// Landing places: a table of their addresses, which rise, and of their places. It is searched by halves.
+// Landing places: a table of their addresses, which rise, and of their places; or one list of both. They are searched by halves.
 
 #![tactic(auto)]
 
 ghost use Rattle.std.specs.Prelude.{◌≡◌, ◌≤◌, length};
 ghost use Rattle.layout.specs.Code.{seen_of};
-ghost use Rattle.landing.specs.Code.{table, table_left, lands_seen, entered, tabled, by_halves, last_to};
+ghost use Rattle.landing.specs.Code.{table, table_left, lands_seen, entered, tabled, addresses_by_halves, last_in_table, by_halves, last_to};
 
 use flow::Way;
 use layout::Point;
@@ -65,9 +65,14 @@ fn enter(
     count
 }
 
-// Of a table with so many entries.
-pub fn last_to(addresses: &[u32], places: &[u32], count: usize, address: u32) -> Option<Landing>
-    ensures { result ≡ last_to (table addresses.now places.now count) address }
+// The last landing place that is not above an address, of a table with so many entries.
+pub fn last_in_table(
+    addresses: &[u32],
+    places: &[u32],
+    count: usize,
+    address: u32,
+) -> Option<Landing>
+    ensures { result ≡ last_in_table (table addresses.now places.now count) address }
 {
     let all = count.min(addresses.len().min(places.len()));
     let at = entries_to(addresses, all, address);
@@ -84,7 +89,7 @@ pub fn last_to(addresses: &[u32], places: &[u32], count: usize, address: u32) ->
 // says nothing of entries that do not rise.
 fn entries_to(addresses: &[u32], count: usize, address: u32) -> usize
     requires { count ≤ length addresses.now }
-    ensures { result ≡ by_halves count addresses.now address 0 count }
+    ensures { result ≡ addresses_by_halves count addresses.now address 0 count }
 {
     let mut low = 0;
     let mut high = count;
@@ -97,4 +102,77 @@ fn entries_to(addresses: &[u32], count: usize, address: u32) -> usize
         }
     }
     low
+}
+
+// The same of landing places in one list.
+pub fn last_to(landings: &[Landing], address: u32) -> Option<Landing>
+    ensures { result ≡ last_to landings.now address }
+{
+    let passed = landings_to(landings, address);
+    if passed == 0 {
+        return None;
+    }
+    Some(landings[passed - 1])
+}
+
+// As `entries_to`.
+fn landings_to(landings: &[Landing], address: u32) -> usize
+    ensures { result ≡ by_halves (length landings.now) landings.now address 0 (length landings.now) }
+{
+    let mut from = 0;
+    let mut to = landings.len();
+    while from < to {
+        let middle = from + (to - from) / 2;
+        if landings[middle].address <= address {
+            from = middle + 1;
+        } else {
+            to = middle;
+        }
+    }
+    from
+}
+
+#[cfg(test)]
+mod tests {
+    use super::*;
+
+    const LANDINGS: [Landing; 3] = [
+        Landing {
+            address: 0x1000,
+            place: Place(0),
+        },
+        Landing {
+            address: 0x1002,
+            place: Place(2),
+        },
+        Landing {
+            address: 0x1006,
+            place: Place(11),
+        },
+    ];
+
+    // Worked by hand: an address, and the last entry that is not above it.
+    const FOUND: [(u32, Option<(u32, Place)>); 8] = [
+        (0, None),
+        (0x0fff, None),
+        (0x1000, Some((0x1000, Place(0)))),
+        (0x1001, Some((0x1000, Place(0)))),
+        (0x1002, Some((0x1002, Place(2)))),
+        (0x1005, Some((0x1002, Place(2)))),
+        (0x1006, Some((0x1006, Place(11)))),
+        (0xffff_ffff, Some((0x1006, Place(11)))),
+    ];
+
+    #[test]
+    fn last_to_finds_the_last_not_above() -> Result<(), u32> {
+        for (address, found) in FOUND {
+            if last_to(&LANDINGS, address).map(|l| (l.address, l.place)) != found {
+                return Err(address);
+            }
+        }
+        match last_to(&[], 0xffff_ffff) {
+            Some(l) => Err(l.address),
+            None => Ok(()),
+        }
+    }
 }

@@ -15,7 +15,7 @@ use Rattle.layout.specs.Layout.{meets, layout}
 use Rattle.layout.proofs.Turns.{Passed}
 use Rattle.landing.specs.declared.Landing.{Landing}
 use Rattle.landing.specs.Landing.{lands_at, lands, landing}
-use Rattle.landing.specs.Code.{Table, table, tabled, last_to, is_listed, landing_place, Sorted, Tells}
+use Rattle.landing.specs.Code.{Table, table, tabled, last_in_table, is_listed, landing_place, Sorted, Tells}
 use Rattle.landing.proofs.Halves.{hits, last_listed}
 use Rattle.landing.proofs.Tabling.{tells}
 use Rattle.std.specs.Prelude.{Option, Some, is_some}
@@ -36,7 +36,7 @@ target_mod address Fills = refl
 
 -- a direct branch is astray where the last landing place that is not above its target is another
 pub astray_by : (t : Table) → Sorted t → (w : Way) (address to : ℕ) (found : Option Landing) (offset : ℤ) → to ≡ target (address % 2 ^ 32) w → w ≡ Direct offset
-    → found ≡ last_to t to → not (hits found to) ≡ astray (is_listed t) w address
+    → found ≡ last_in_table t to → not (hits found to) ≡ astray (is_listed t) w address
 unfolding astray
 astray_by t sorted w address to found offset e f g =
     rw (g, ← last_listed t sorted to, e, target_mod address w, f)

@@ -60,7 +60,7 @@ fn is_astray(addresses: &[u32], places: &[u32], count: usize, w: Way, address: A
         Way::Direct(_) => {
             let from = (address.0 % 0x1_0000_0000) as u32;
             let to = w.target(from);
-            match landing::last_to(addresses, places, count, to) {
+            match landing::last_in_table(addresses, places, count, to) {
                 Some(found) => found.address != to,
                 None => true,
             }

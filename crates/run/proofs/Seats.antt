@@ -24,7 +24,7 @@ use Rattle.layout.proofs.Blocks.{nothing_waits, unparted, unparted_at, parted_as
 use Rattle.landing.specs.declared.Landing.{Landing}
 use Rattle.std.specs.Prelude.{Option, Some, None}
 use Rattle.landing.specs.Landing.{lands_here}
-use Rattle.landing.specs.Code.{Table, last_to, Tells}
+use Rattle.landing.specs.Code.{Table, last_in_table, Tells}
 use Rattle.landing.proofs.Tabling.{Lands, last_lands}
 use Rattle.listing.proofs.Accepted.{Accepted, not_stopped, end_waits}
 use Rattle.run.specs.Place.{place_in}
@@ -107,7 +107,7 @@ module _ (listing : List ℕ) (base : ℕ) (ok : Accepted listing base) where
 
   -- ---- from a landing place
   module _ (t : Table) (tells : Tells t listing base) (address : ℕ) (l : Landing) (found : Option Landing)
-      (is : found ≡ last_to t address) (e : found ≡ Some l) where
+      (is : found ≡ last_in_table t address) (e : found ≡ Some l) where
     abbrev lands : Lands listing base l × (l.address ≤ address)
     lands = last_lands listing base t tells address l (sym is ∙ e)
 

@@ -21,7 +21,7 @@ impl Chart<'_> {
     pub fn find(&self, address: u32) -> Seat
         ensures { result ≡ seat_at self.now.listing.now self.now.base address }
     {
-        match landing::last_to(self.addresses, self.places, self.count, address) {
+        match landing::last_in_table(self.addresses, self.places, self.count, address) {
             Some(found) => {
                 let point = Point {
                     place: found.place,

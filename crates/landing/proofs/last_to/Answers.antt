@@ -1,37 +1,24 @@
 use mathlib.Core.Path.{sym}
 use native.Mathlib.Omega.{arith}
+use lib.ListN.{length}
 use Rattle.landing.specs.Code.{last_to}
-use Rattle.landing.proofs.Halves.{halves_within, last_none, last_before}
+use Rattle.landing.proofs.Entries.{list_within, last_of_none, last_of_some}
 use Rattle.landing.proofs.last_to.Goals as goal
 
-pub returns-then-at-eq0 : goal.returns-then-at-eq0
+pub returns-then-passed-eq0 : goal.returns-then-passed-eq0
 unfolding last_to
-returns-then-at-eq0 c =
-    let bound = rw c.min.ensures at c.min-all.ensures in
-    rw (← bound, ← c.entries_to-at.ensures) (sym (last_none c.entries_to-at.result _ c.if-at-eq0.true))
+returns-then-passed-eq0 c = rw (← c.landings_to-passed.ensures) (sym (last_of_none c.landings_to-passed.result _ c.if-passed-eq0.true))
 
-pub offset_bounds-addresses-at : goal.offset_bounds-addresses-at
-offset_bounds-addresses-at c =
-    let all = c.min-all.result in
-    omega (arith, c.min.ensures, c.min-all.ensures, c.entries_to-at.ensures, halves_within c.args.addresses.now c.args.address all 0 all (omega arith))
+pub offset_bounds-landings-passed : goal.offset_bounds-landings-passed
+offset_bounds-landings-passed c =
+    let a = c.args in
+    omega (arith, c.landings_to-passed.ensures, list_within a.landings.now a.address (length a.landings.now) 0 (length a.landings.now) (omega arith))
 
-pub bounds-addresses-at : goal.bounds-addresses-at
-bounds-addresses-at c =
-    let all = c.min-all.result in
-    omega (arith, c.min.ensures, c.min-all.ensures, c.entries_to-at.ensures, halves_within c.args.addresses.now c.args.address all 0 all (omega arith))
-
-pub offset_bounds-places-at : goal.offset_bounds-places-at
-offset_bounds-places-at c =
-    let all = c.min-all.result in
-    omega (arith, c.min.ensures, c.min-all.ensures, c.entries_to-at.ensures, halves_within c.args.addresses.now c.args.address all 0 all (omega arith))
-
-pub bounds-places-at : goal.bounds-places-at
-bounds-places-at c =
-    let all = c.min-all.result in
-    omega (arith, c.min.ensures, c.min-all.ensures, c.entries_to-at.ensures, halves_within c.args.addresses.now c.args.address all 0 all (omega arith))
+pub bounds-landings-passed : goal.bounds-landings-passed
+bounds-landings-passed c =
+    let a = c.args in
+    omega (arith, c.landings_to-passed.ensures, list_within a.landings.now a.address (length a.landings.now) 0 (length a.landings.now) (omega arith))
 
 pub returns : goal.returns
 unfolding last_to
-returns c =
-    let bound = rw c.min.ensures at c.min-all.ensures in
-    rw (← bound, ← c.entries_to-at.ensures) (sym (last_before c.entries_to-at.result _ (omega arith)))
+returns c = rw (← c.landings_to-passed.ensures) (sym (last_of_some c.landings_to-passed.result _ (omega arith)))
