@@ -61,6 +61,9 @@ found_alike ls address =
 pub list_within : (ls : List Landing) (address more low high : ℕ) → low ≤ high → by_halves more ls address low high ≤ high
 list_within ls address more low high h = rw (halves_alike more ls address low high) (halves_within (addresses_of ls) address more low high h)
 
+pub list_passed_within : (ls : List Landing) (address passed : ℕ) → passed ≡ by_halves (length ls) ls address 0 (length ls) → passed ≤ length ls
+list_passed_within ls address passed e = rw e (list_within ls address (length ls) 0 (length ls) (omega arith))
+
 pub last_of_none : (k : ℕ) (ls : List Landing) → k ≡ 0 → last_of k ls ≡ None
 unfolding last_of
 last_of_none zero ls e = refl

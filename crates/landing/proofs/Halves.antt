@@ -85,6 +85,9 @@ halves_within addresses address (suc more) low high h = go (λ l m n. halves_wit
     go rest true t = side rest (leb (get_or addresses middle 0) address) (ltb-true low high t)
     go rest false t = h
 
+pub passed_within : (addresses : List ℕ) (address all passed : ℕ) → passed ≡ addresses_by_halves all addresses address 0 all → passed ≤ all
+passed_within addresses address all passed e = rw e (halves_within addresses address all 0 all (omega arith))
+
 -- ---- what a search knows: the entries before `low` are not above the address, and those from `high` on are
 record Parted (addresses : List ℕ) (count address low high : ℕ) : Type 0 where
   order : low ≤ high

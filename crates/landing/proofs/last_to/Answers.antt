@@ -1,8 +1,7 @@
 use mathlib.Core.Path.{sym}
 use native.Mathlib.Omega.{arith}
-use lib.ListN.{length}
 use Rattle.landing.specs.Code.{last_to}
-use Rattle.landing.proofs.Entries.{list_within, last_of_none, last_of_some}
+use Rattle.landing.proofs.Entries.{list_passed_within, last_of_none, last_of_some}
 use Rattle.landing.proofs.last_to.Goals as goal
 
 pub returns-then-passed-eq0 : goal.returns-then-passed-eq0
@@ -10,14 +9,10 @@ unfolding last_to
 returns-then-passed-eq0 c = rw (← c.landings_to-passed.ensures) (sym (last_of_none c.landings_to-passed.result _ c.if-passed-eq0.true))
 
 pub offset_bounds-landings-passed : goal.offset_bounds-landings-passed
-offset_bounds-landings-passed c =
-    let a = c.args in
-    omega (arith, c.landings_to-passed.ensures, list_within a.landings.now a.address (length a.landings.now) 0 (length a.landings.now) (omega arith))
+offset_bounds-landings-passed c = omega (arith, list_passed_within _ _ _ c.landings_to-passed.ensures)
 
 pub bounds-landings-passed : goal.bounds-landings-passed
-bounds-landings-passed c =
-    let a = c.args in
-    omega (arith, c.landings_to-passed.ensures, list_within a.landings.now a.address (length a.landings.now) 0 (length a.landings.now) (omega arith))
+bounds-landings-passed c = omega (arith, list_passed_within _ _ _ c.landings_to-passed.ensures)
 
 pub returns : goal.returns
 unfolding last_to
