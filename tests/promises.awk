@@ -89,6 +89,8 @@ part == "code" && /^impl/ {
     split("", gives)
 }
 part == "code" && /^}/ { type = trait = "" }
+part == "code" && /^ *fn / && line_before ~ /^ *#\[test\]$/ { tests[word_of($2)] }
+part == "code" { line_before = $0 }
 # in an `impl` of a trait the ghost member `METHOD_gives` says what a method answers
 part == "code" && /^    ghost [a-z_]+_gives = / {
     name = $2
@@ -380,7 +382,7 @@ function is_edit_there(pattern,    crate, name, found) {
     return found
 }
 
-# `steps; worked (..); LSL LSR at 32`: scripts or cases of tests/, or what lines of the edge values begin with
+# `steps; worked (..); LSL LSR at 32`: scripts or cases of tests/, or what lines of the edge values begin with; in backquotes a #[test] of a crate
 function look_up_test(cell,    count, each, words, word, i, k) {
     gsub(/ *\([^)]*\)/, "", cell)
     count = split(cell, each, /; */)
@@ -389,6 +391,8 @@ function look_up_test(cell,    count, each, words, word, i, k) {
         for (k = 1; k <= words; k++)
             if (word[k] ~ /^[A-Z][A-Z0-9]*$/ && length(word[k]) < 8) {
                 if (!(word[k] in lines)) missing(word[k], "no such line of the edge values")
+            } else if (word[k] ~ /^`/) {
+                if (!(substr(word[k], 2, length(word[k]) - 2) in tests)) missing(word[k], "no such #[test]")
             } else if (k == 1 && !is_there("tests/" word[k]) && !is_there("tests/" word[k] ".*")) missing(word[k], "no such test")
     }
 }
